@@ -1,0 +1,34 @@
+//! A kind from its figures, once they are tested.
+ghost use mathlib.Core.Path.{_≡_};
+ghost use Rattle.job.specs.Edits.{kind-of, restarts};
+ghost use Rattle.job.specs.Refusals.{told};
+use super::Figures;
+use super::Kind;
+use crate::refusal::Refusal;
+
+impl Figures {
+    // The kind with these figures, or a refusal where one is out of its range.
+    pub(crate) fn kind(self) -> Result<Kind, Refusal>
+        ensures { λ r. ⌜ told r ≡ kind-of self ⌝ }
+    {
+        if self.busy < 1 || self.busy > self.duration || self.duration > 8 || self.cap > 64 {
+            return Err(Refusal::FigureOutOfRange);
+        }
+        Ok(Kind {
+            duration: self.duration,
+            busy: self.busy,
+            cap: self.cap,
+            area: self.area,
+            draw: self.draw,
+        })
+    }
+}
+
+impl Kind {
+    // Whether a unit of this kind is free again when the next sample comes.
+    pub(crate) fn restarts_within(&self, latency: u8) -> bool
+        ensures { λ r. ⌜ r ≡ restarts latency (now (self .entry)) ⌝ }
+    {
+        latency == 0 || self.busy <= latency
+    }
+}
