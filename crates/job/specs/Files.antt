@@ -6,6 +6,7 @@ use mathlib.Core.List.{List, [], _∷_, _++_}
 use mathlib.Core.Bool.{cond, _&&_}
 use lib.ListN.{length, take, drop, getD}
 use lib.Dec.{eqb, ltb}
+use denote.Ref.{RefT, now}
 use Rattle.std.specs.declared.result.Result.{Result}
 use Rattle.std.specs.declared.result.Result.the-variants.{Ok, Err}
 use Rattle.std.specs.declared.option.Option.{Option}
@@ -67,6 +68,14 @@ abbrev pub loaded : List ℕ → Result Job (ℕ × ℕ)
 loaded [] = Err (number NotAJobFile, 0)
 loaded (version ∷ rest) =
     cond (eqb version 1 && ltb (length rest) 4096) (with-records (length rest) fresh 1 rest) (Err (number NotAJobFile, 0))
+
+-- the bytes begin with a record of this body, and the others follow it; or there is no whole record
+abbrev pub Split : List ℕ → Option (RefT (List ℕ) × RefT (List ℕ)) → Type 0
+Split [] r = r ≡ None
+Split (high ∷ []) r = r ≡ None
+Split (high ∷ (low ∷ rest)) None = length rest < word high low
+Split (high ∷ (low ∷ rest)) (Some s) =
+    (word high low ≤ length rest) × (now (s .0) ≡ take (word high low) rest) × (now (s .1) ≡ drop (word high low) rest)
 
 -- ---- what a file says
 

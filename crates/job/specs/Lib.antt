@@ -7,5 +7,4 @@ pub mod Edits
 pub mod Files
 pub mod Encoding
 pub mod Changes
-
 pub mod Held

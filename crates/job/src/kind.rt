@@ -1,6 +1,10 @@
 //! Kinds of unit: their figures, and the ranges that every kind keeps.
 ghost use Prim.Native.Nat.{_≤_};
 
+const LONGEST_DURATION: u8 = 8;
+
+const MOST_UNITS: u8 = 64;
+
 /// The figures of a kind as a caller gives them, not tested yet.
 #[derive(Clone, Copy)]
 pub struct Figures {

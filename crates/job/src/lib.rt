@@ -1,5 +1,6 @@
 //! A job for the planner: kinds of unit, operations, limits, the frame of each operation, and the job file.
 pub mod edit;
+mod file;
 pub mod job;
 pub mod kind;
 pub mod library;

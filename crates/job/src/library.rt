@@ -1,7 +1,12 @@
 //! The house library: units whose figures need not be typed in.
 ghost use mathlib.Core.Path.{_≡_};
 ghost use Rattle.job.specs.Jobs.{numbered};
-ghost use Rattle.job.specs.Library.{house-library};
+ghost use Rattle.job.specs.Edits.{kind-from};
+ghost use Rattle.job.specs.Library.{house-library, with-cap};
+ghost use Rattle.job.specs.Refusals.{told};
+use crate::kind::Figures;
+use crate::kind::Kind;
+use crate::refusal::Refusal;
 
 /// A unit of the library: the figures of a kind but for its cap.
 #[derive(Clone, Copy)]
@@ -12,8 +17,23 @@ pub struct LibraryUnit {
     pub draw: u16,
 }
 
+impl LibraryUnit {
+    // The figures of a kind: the unit's, with a cap.
+    fn with_cap(self, cap: u8) -> Figures
+        ensures { λ r. ⌜ r ≡ with-cap self cap ⌝ }
+    {
+        Figures {
+            duration: self.duration,
+            busy: self.busy,
+            cap,
+            area: self.area,
+            draw: self.draw,
+        }
+    }
+}
+
 // The unit of the house library with this number, from 1.
-pub(crate) fn house_unit(number: u8) -> Option<LibraryUnit>
+fn house_unit(number: u8) -> Option<LibraryUnit>
     ensures { λ r. ⌜ r ≡ numbered house-library number ⌝ }
 {
     let (duration, busy, area, draw) = match number {
@@ -33,4 +53,14 @@ pub(crate) fn house_unit(number: u8) -> Option<LibraryUnit>
         area,
         draw,
     })
+}
+
+// The kind of the house library with this number and a cap.
+pub(crate) fn library_kind(number: u8, cap: u8) -> Result<Kind, Refusal>
+    ensures { λ r. ⌜ told r ≡ kind-from (numbered house-library number) cap ⌝ }
+{
+    let Some(unit) = house_unit(number) else {
+        return Err(Refusal::UnknownLibraryUnit);
+    };
+    unit.with_cap(cap).kind()
 }

@@ -4,6 +4,8 @@ ghost use Rattle.job.specs.Edits.{kind-of, restarts};
 ghost use Rattle.job.specs.Refusals.{told};
 use super::Figures;
 use super::Kind;
+use super::LONGEST_DURATION;
+use super::MOST_UNITS;
 use crate::refusal::Refusal;
 
 impl Figures {
@@ -11,7 +13,10 @@ impl Figures {
     pub(crate) fn kind(self) -> Result<Kind, Refusal>
         ensures { λ r. ⌜ told r ≡ kind-of self ⌝ }
     {
-        if self.busy < 1 || self.busy > self.duration || self.duration > 8 || self.cap > 64 {
+        if self.busy == 0 || self.busy > self.duration {
+            return Err(Refusal::FigureOutOfRange);
+        }
+        if self.duration > LONGEST_DURATION || self.cap > MOST_UNITS {
             return Err(Refusal::FigureOutOfRange);
         }
         Ok(Kind {

@@ -6,10 +6,14 @@ ghost use Rattle.job.specs.Edits.{with-kind, with-operation, with-limits, all-
 ghost use Rattle.job.specs.Held.{tables-job};
 ghost use Rattle.job.specs.Jobs.{fresh};
 ghost use Rattle.job.specs.Refusals.{told};
+use super::LONGEST_LATENCY;
+use super::MOST_KINDS;
+use super::MOST_OPERATIONS;
+use super::MOST_STEPS;
 use super::Tables;
 use crate::edit::Edit;
 use crate::kind::Kind;
-use crate::library::house_unit;
+use crate::library::library_kind;
 use crate::operation::Operation;
 use crate::refusal::Refusal;
 use crate::table::Table;
@@ -42,7 +46,8 @@ impl Tables {
     fn add_kind(&mut self, kind: Kind) -> Result<(), Refusal>
         ensures { λ r. ⌜ Became (tables-job (now (self .entry))) (with-kind (tables-job (now (self .entry))) (Ok kind)) (told r) (tables-job (now (self .exit))) ⌝ }
     {
-        if self.kinds.as_slice().len() >= 8 {
+        let held = self.kinds.as_slice().len();
+        if held >= MOST_KINDS {
             return Err(Refusal::TooManyKinds);
         }
         if !kind.restarts_within(self.latency) {
@@ -57,7 +62,7 @@ impl Tables {
     {
         let kinds = self.kinds.as_slice().len();
         let held = self.operations.as_slice().len();
-        if held >= 64 {
+        if held >= MOST_OPERATIONS {
             return Err(Refusal::TooManyOperations);
         }
         if operation.kind == 0 || operation.kind as usize > kinds {
@@ -85,7 +90,7 @@ impl Tables {
     fn set_limits(&mut self, steps: u8, latency: u8) -> Result<(), Refusal>
         ensures { λ r. ⌜ Became (tables-job (now (self .entry))) (with-limits (tables-job (now (self .entry))) steps latency) (told r) (tables-job (now (self .exit))) ⌝ }
     {
-        if steps < 1 || steps > 64 || latency > 64 {
+        if steps == 0 || steps > MOST_STEPS || latency > LONGEST_LATENCY {
             return Err(Refusal::LimitOutOfRange);
         }
         if !self.all_restart(latency) {
@@ -94,5 +99,17 @@ impl Tables {
         self.steps = steps;
         self.latency = latency;
         Ok(())
+    }
+
+    // Makes one edit.
+    pub(crate) fn edit(&mut self, edit: Edit) -> Result<(), Refusal>
+        ensures { λ r. ⌜ Became (tables-job (now (self .entry))) (edited (tables-job (now (self .entry))) edit) (told r) (tables-job (now (self .exit))) ⌝ }
+    {
+        match edit {
+            Edit::AddKind(figures) => self.add_kind(figures.kind()?),
+            Edit::AddLibraryKind { number, cap } => self.add_kind(library_kind(number, cap)?),
+            Edit::AddOperation(operation) => self.add_operation(operation),
+            Edit::SetLimits { steps, latency } => self.set_limits(steps, latency),
+        }
     }
 }

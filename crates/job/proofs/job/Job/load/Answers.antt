@@ -1,0 +1,24 @@
+use Rattle.std.proofs.shelf.Results.{err-from-errBy}
+use Rattle.job.specs.Held.{job-of, tables-job}
+use Rattle.job.specs.Files.{loaded}
+use Rattle.job.proofs.Encoded.{files-stand-for-edits}
+use Rattle.job.proofs.Outcomes.{became-wanted, stayed-refused}
+use Rattle.job.proofs.Reading.{files-are-read}
+use Rattle.job.proofs.job.Job.load.Needs as need
+
+pub returns-in-Break-tables : need.returns-in-Break-tables
+returns-in-Break-tables c =
+    let p = err-from-errBy (c .from-residual .result) (c .from-residual .ensures .1) in
+    record {
+      exact = rw (p .1, p .2) (stayed-refused (job-of (c .args .self .now)) (loaded (c .args .file .now)) _ (c .in-Break-tables .ensures tt));
+      read = files-are-read (c .args .file .now);
+      written = files-stand-for-edits;
+    }
+
+pub returns : need.returns
+returns c =
+    record {
+      exact = became-wanted (job-of (c .args .self .now)) (loaded (c .args .file .now)) (tables-job (c .in-Continue-tables .tables)) (job-of (c .of .result)) (c .in-Continue-tables .ensures tt) (c .of .ensures);
+      read = files-are-read (c .args .file .now);
+      written = files-stand-for-edits;
+    }
