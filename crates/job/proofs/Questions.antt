@@ -11,9 +11,9 @@ use Rattle.std.specs.declared.result.Result.{Result}
 use Rattle.std.specs.declared.result.Result.the-variants.{Ok}
 use Rattle.std.proofs.shelf.Lists.{getD-take}
 use Rattle.std.proofs.shelf.Tests.{and-from, le-leb}
-use Rattle.job.specs.Frames.{earliest-start, latest-start, holds, frame-of}
-use Rattle.job.specs.Jobs.{Job}
-use Rattle.job.proofs.Tests.{where-on}
+use Rattle.rules.specs.Frames.{earliest-start, latest-start, holds, frame-of}
+use Rattle.rules.specs.Jobs.{Job}
+use Rattle.rules.proofs.Tests.{where-on}
 
 -- what an array of 64 rows has for number n, where its first rows are those of a list
 pub row-of : {X : Type 0} {told : List X} (count : ℕ) (rows : List X) (n : ℕ) (d : X) → take count rows ≡ told → 1 ≤ n → n ≤ count → getD rows (n - 1) d ≡ getD told (pred n) d

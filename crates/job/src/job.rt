@@ -2,9 +2,9 @@
 ghost use Prim.Native.Nat.{_≤_};
 ghost use mathlib.Core.Path.{_≡_};
 ghost use lib.ListN.{length, take};
-ghost use Rattle.job.specs.Frames.{earliests, latests};
-ghost use Rattle.job.specs.Tables.{filled, job-from};
-use crate::tables::Tables;
+ghost use Rattle.rules.specs.Frames.{earliests, latests};
+ghost use Rattle.tables.specs.Tables.{filled, job-from};
+use tables::tables::Tables;
 
 /// What is to be planned: kinds of unit, operations, a number of steps and a latency.
 ///

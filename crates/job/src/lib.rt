@@ -1,10 +1,13 @@
 //! A job for the planner: kinds of unit, operations, limits, the frame of each operation, and the job file.
-pub mod edit;
-mod file;
 pub mod job;
-pub mod kind;
-pub mod library;
-pub mod operation;
-pub mod refusal;
-pub mod table;
-mod tables;
+
+pub use rules::edit::Edit;
+pub use rules::kind::Figures;
+pub use rules::kind::Kind;
+pub use rules::operation::Operation;
+pub use rules::refusal::FileRefusal;
+pub use rules::refusal::FileRefusalDebug;
+pub use rules::refusal::FileRefusalPartialEq;
+pub use rules::refusal::Refusal;
+pub use rules::refusal::RefusalDebug;
+pub use rules::refusal::RefusalPartialEq;

@@ -1,23 +1,24 @@
 //! The calls on a job.
 ghost use mathlib.Core.Path.{_≡_};
 ghost use Rattle.std.specs.Vec.{made};
-ghost use Rattle.job.specs.Changes.{Made-are-valid};
-ghost use Rattle.job.specs.declared.edit.Edit.the-variants.{AddKind, AddLibraryKind, AddOperation, SetLimits};
-ghost use Rattle.job.specs.Edits.{edited, Became};
-ghost use Rattle.job.specs.Encoding.{Files-stand-for-edits};
-ghost use Rattle.job.specs.Files.{loaded, Loads};
-ghost use Rattle.job.specs.Frames.{frame-of, Framed};
-ghost use Rattle.job.specs.Held.{job-of, tables-job};
-ghost use Rattle.job.specs.Jobs.{fresh};
-ghost use Rattle.job.specs.Refusals.{told, told-file};
+ghost use Rattle.rules.specs.Changes.{Made-are-valid};
+ghost use Rattle.rules.specs.declared.edit.Edit.the-variants.{AddKind, AddLibraryKind, AddOperation, SetLimits};
+ghost use Rattle.rules.specs.Edits.{edited, Became};
+ghost use Rattle.rules.specs.Encoding.{Files-stand-for-edits};
+ghost use Rattle.rules.specs.Files.{loaded, Loads};
+ghost use Rattle.rules.specs.Frames.{frame-of, Framed};
+ghost use Rattle.job.specs.Held.{job-of};
+ghost use Rattle.tables.specs.Held.{tables-job};
+ghost use Rattle.rules.specs.Jobs.{fresh};
+ghost use Rattle.rules.specs.Refusals.{told, told-file};
 use super::Job;
-use crate::edit::Edit;
-use crate::kind::Figures;
-use crate::kind::Kind;
-use crate::operation::Operation;
-use crate::refusal::FileRefusal;
-use crate::refusal::Refusal;
-use crate::tables::Tables;
+use rules::edit::Edit;
+use rules::kind::Figures;
+use rules::kind::Kind;
+use rules::operation::Operation;
+use rules::refusal::FileRefusal;
+use rules::refusal::Refusal;
+use tables::tables::Tables;
 
 impl Job {
     /// A job with no kinds, no operations, one step and latency 0.

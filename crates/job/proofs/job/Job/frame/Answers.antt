@@ -7,13 +7,13 @@ use mir.Val.{SFits, toZ, ofZ}
 use mir.Syntax.{w16}
 use borrow.Author.Needs.{needs}
 use Rattle.std.proofs.shelf.Signed.{toZ-ofZ, toZ-pos}
-use Rattle.job.specs.Frames.{earliest-start, latest-start}
+use Rattle.rules.specs.Frames.{earliest-start, latest-start}
 use Rattle.job.specs.Held.{job-of}
-use Rattle.job.specs.Jobs.{Job}
-use Rattle.job.specs.Tables.{filled}
-use Rattle.job.proofs.FramesRight.{frames-right, earliest-small}
+use Rattle.rules.specs.Jobs.{Job}
+use Rattle.tables.specs.Tables.{filled}
+use Rattle.rules.proofs.FramesRight.{frames-right, earliest-small}
 use Rattle.job.proofs.Questions.{row-of, frame-told}
-use Rattle.job.proofs.Validity.{valid-out}
+use Rattle.rules.proofs.Validity.{valid-out}
 use Rattle.job.proofs.job.Job.frame.Needs as need
 
 pub cast-result : need.cast-result

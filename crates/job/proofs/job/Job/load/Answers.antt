@@ -1,9 +1,10 @@
 use Rattle.std.proofs.shelf.Results.{err-from-errBy}
-use Rattle.job.specs.Held.{job-of, tables-job}
-use Rattle.job.specs.Files.{loaded}
-use Rattle.job.proofs.Encoded.{files-stand-for-edits}
-use Rattle.job.proofs.Outcomes.{became-wanted, stayed-refused}
-use Rattle.job.proofs.Reading.{files-are-read}
+use Rattle.job.specs.Held.{job-of}
+use Rattle.tables.specs.Held.{tables-job}
+use Rattle.rules.specs.Files.{loaded}
+use Rattle.rules.proofs.Encoded.{files-stand-for-edits}
+use Rattle.rules.proofs.Outcomes.{became-wanted, stayed-refused}
+use Rattle.rules.proofs.Reading.{files-are-read}
 use Rattle.job.proofs.job.Job.load.Needs as need
 
 pub returns-in-Break-tables : need.returns-in-Break-tables

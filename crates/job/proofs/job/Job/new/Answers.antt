@@ -1,5 +1,5 @@
 use mathlib.Core.Path.{_∙_}
-use Rattle.job.proofs.Making.{made-are-valid}
+use Rattle.rules.proofs.Making.{made-are-valid}
 use Rattle.job.proofs.job.Job.new.Needs as need
 
 pub returns : need.returns

@@ -1,6 +1,0 @@
-use lib.ListN.{length-replicate}
-use native.Mathlib.Omega.{arith}
-use Rattle.job.proofs.table.Table.new.Needs as need
-
-pub ghost-result : need.ghost-result
-ghost-result g c = (length-replicate (g .N) (c .args .spare), (omega arith, tt))

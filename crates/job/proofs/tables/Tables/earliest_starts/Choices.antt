@@ -1,6 +1,0 @@
-use Rattle.job.specs.Held.{tables-job}
-use Rattle.job.proofs.EarliestLoop.{Told}
-use Rattle.job.proofs.tables.Tables.earliest_starts.Given as given
-
-abbrev pub Inv-loop-i : given.InvT-loop-i
-Inv-loop-i l = Told (tables-job (l .self)) (l .starts) (l .ready) (l .i)

@@ -1,8 +1,0 @@
-use mathlib.Core.Path.{_≡_}
-use lib.ListN.{length}
-use Rattle.job.specs.Held.{tables-job}
-use Rattle.job.proofs.LatestLoop.{Known}
-use Rattle.job.proofs.tables.Tables.latest_starts.Given as given
-
-abbrev pub Inv-loop-i : given.InvT-loop-i
-Inv-loop-i l = (length (l .starts) ≡ 64) × Known (tables-job (l .self)) (l .starts) (l .i)

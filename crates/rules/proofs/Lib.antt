@@ -1,0 +1,15 @@
+pub mod Numbered
+pub mod Rows
+pub mod Validity
+pub mod Tests
+pub mod Figures
+pub mod Changing
+pub mod Outcomes
+pub mod Reading
+pub mod Records
+pub mod Encoded
+pub mod Making
+pub mod Durations
+pub mod Earliest
+pub mod Latest
+pub mod FramesRight

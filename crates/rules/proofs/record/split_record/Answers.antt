@@ -1,0 +1,12 @@
+use Prim.Native.Nat.{_≤_}
+use native.Mathlib.Omega.{arith}
+use lib.ListN.{length}
+use borrow.Author.Needs.{needs}
+use Rattle.rules.proofs.Records.{split-there}
+use Rattle.rules.proofs.record.split_record.Needs as need
+
+pub returns : need.returns
+returns c =
+    let two : 2 ≤ length (c .args .bytes .now) = search needs in
+    split-there (c .args .bytes .now) (c .from-be-bytes-length .result) (c .split-at .result) two (c .from-be-bytes-length .ensures) (c .if-length-rest .left)
+    (c .split-at .ensures .front) (c .split-at .ensures .back)

@@ -1,0 +1,2 @@
+mod EarliestLoop
+mod LatestLoop

@@ -1,0 +1,68 @@
+//! Working out the frames: the earliest starts from the first operation on, the latest from the last back.
+ghost use Prim.Native.Nat.{_+_, _<_};
+ghost use mathlib.Core.Path.{_≡_};
+ghost use mathlib.Core.List.{_∷_};
+ghost use lib.ListN.{length, take, drop};
+ghost use Rattle.rules.specs.Frames.{earliests, latests, latests-from};
+ghost use Rattle.tables.specs.Held.{tables-job};
+ghost use Rattle.rules.specs.Jobs.{durationOf};
+use super::Tables;
+use rules::operation::Operation;
+
+impl Tables {
+    // The duration of an operation that is held.
+    fn duration(&self, operation: Operation) -> u8
+        ensures { λ r. ⌜ r ≡ durationOf (tables-job (now (self .entry))) operation ⌝ }
+    {
+        let kinds = self.kinds.as_slice();
+        let kind = operation.kind as usize;
+        if kind == 0 || kind > kinds.len() {
+            return 0;
+        }
+        kinds[kind - 1].duration
+    }
+
+    /// The earliest start of each operation: `ready` has when each can be read, and an outside input at its row 0.
+    pub fn earliest_starts(&self) -> [u16; 64]
+        ensures { λ r. ⌜ take (length (tables-job (now (self .entry)) .operations)) r ≡ earliests (tables-job (now (self .entry))) ⌝ }
+    {
+        let mut starts = [0; 64];
+        let mut ready: [u16; 65] = [1; 65];
+        for (i, operation) in self.operations.as_slice().iter().enumerate() {
+            let start = ready[operation.left as usize].max(ready[operation.right as usize]);
+            starts[i] = start;
+            ready[i + 1] = start + self.duration(*operation) as u16;
+        }
+        starts
+    }
+
+    // The latest start of operation i, counted from 0, where those of the later ones are known.
+    fn latest_start(&self, i: usize, starts: &[i16; 64]) -> i16
+        requires held { ⌜ i < length (tables-job (now self) .operations) ⌝ }
+        requires later { ⌜ drop (i + 1) (take (length (tables-job (now self) .operations)) (now starts)) ≡ latests-from (tables-job (now self)) (i + 2) (drop (i + 1) (tables-job (now self) .operations)) ⌝ }
+        ensures { λ r. ⌜ r ∷ latests-from (tables-job (now (self .entry))) (i + 2) (drop (i + 1) (tables-job (now (self .entry)) .operations)) ≡ latests-from (tables-job (now (self .entry))) (i + 1) (drop i (tables-job (now (self .entry)) .operations)) ⌝ }
+    {
+        let rows = self.operations.as_slice();
+        let number = i + 1;
+        let duration = self.duration(rows[i]) as i16;
+        let mut latest = self.steps as i16 - duration + 1;
+        for q in number..rows.len() {
+            let user = rows[q];
+            if user.left as usize == number || user.right as usize == number {
+                latest = latest.min(starts[q] - duration);
+            }
+        }
+        latest
+    }
+
+    /// The latest start of each operation.
+    pub fn latest_starts(&self) -> [i16; 64]
+        ensures { λ r. ⌜ take (length (tables-job (now (self .entry)) .operations)) r ≡ latests (tables-job (now (self .entry))) ⌝ }
+    {
+        let mut starts = [0; 64];
+        for i in (0..self.operations.as_slice().len()).rev() {
+            starts[i] = self.latest_start(i, &starts);
+        }
+        starts
+    }
+}
