@@ -1,18 +1,10 @@
-//! Calls that change a job: what is accepted, what is refused, and in which order the tests run.
-use job::edit::Edit;
-use job::job::Job;
-use job::kind::Figures;
-use job::operation::Operation;
-use job::refusal::Refusal;
+//! Calls that change a job: what is accepted, what is refused, and in which order the tests of a call run.
+use job::Edit;
+use job::Figures;
+use job::Job;
+use job::Operation;
+use job::Refusal;
 use std::test::*;
-
-const GOOD: Figures = Figures {
-    duration: 2,
-    busy: 2,
-    cap: 4,
-    area: 10,
-    draw: 5,
-};
 
 fn kind(duration: u8, busy: u8, cap: u8) -> Edit {
     Edit::AddKind(Figures {
@@ -36,25 +28,33 @@ fn limits(steps: u8, latency: u8) -> Edit {
     Edit::SetLimits { steps, latency }
 }
 
-// The number with which an edit is refused, 0 where it is accepted.
-fn refused(job: &mut Job, edit: Edit) -> u8 {
-    match job.edit(edit) {
-        Ok(()) => 0,
-        Err(refusal) => refusal.number(),
+// Makes the edits in turn; each is answered with its number, 0 where it is accepted.
+fn answered(job: &mut Job, edits: &[(Edit, u8)]) -> Result<(), Fail> {
+    for (edit, expected) in edits {
+        let number = match job.edit(*edit) {
+            Ok(()) => 0,
+            Err(refusal) => refusal.number(),
+        };
+        check_eq(number, *expected)?;
     }
+    Ok(())
 }
 
 #[test]
 fn figures_at_the_ends_of_their_ranges() -> Result<(), Fail> {
     let mut job = Job::new();
-    check_eq(refused(&mut job, kind(0, 0, 1)), 1)?;
-    check_eq(refused(&mut job, kind(9, 1, 1)), 1)?;
-    check_eq(refused(&mut job, kind(2, 0, 1)), 1)?;
-    check_eq(refused(&mut job, kind(2, 3, 1)), 1)?;
-    check_eq(refused(&mut job, kind(1, 1, 65)), 1)?;
+    answered(
+        &mut job,
+        &[
+            (kind(0, 0, 1), 1),
+            (kind(9, 1, 1), 1),
+            (kind(2, 0, 1), 1),
+            (kind(2, 3, 1), 1),
+            (kind(1, 1, 65), 1),
+        ],
+    )?;
     check_eq(job.kinds().len(), 0).note("a refusal leaves no row behind")?;
-    check_eq(refused(&mut job, kind(8, 8, 64)), 0)?;
-    check_eq(refused(&mut job, kind(1, 1, 0)), 0)?;
+    answered(&mut job, &[(kind(8, 8, 64), 0), (kind(1, 1, 0), 0)])?;
     check_eq(job.kinds().len(), 2)
 }
 
@@ -62,103 +62,140 @@ fn figures_at_the_ends_of_their_ranges() -> Result<(), Fail> {
 fn limits_at_the_ends_of_their_ranges() -> Result<(), Fail> {
     let mut job = Job::new();
     check_eq((job.steps(), job.latency()), (1, 0)).note("a new job")?;
-    check_eq(refused(&mut job, limits(0, 0)), 2)?;
-    check_eq(refused(&mut job, limits(65, 0)), 2)?;
-    check_eq(refused(&mut job, limits(1, 65)), 2)?;
+    answered(
+        &mut job,
+        &[(limits(0, 0), 2), (limits(65, 0), 2), (limits(1, 65), 2)],
+    )?;
     check_eq((job.steps(), job.latency()), (1, 0)).note("refused limits are not set")?;
-    check_eq(refused(&mut job, limits(64, 64)), 0)?;
+    answered(&mut job, &[(limits(64, 64), 0)])?;
     check_eq((job.steps(), job.latency()), (64, 64))
 }
 
 #[test]
 fn the_house_library() -> Result<(), Fail> {
-    let mut job = Job::new();
-    for number in 1..5 {
-        job.add_library_kind(number, 10 + number)?;
-    }
-    let [adder, alu, multiplier, pipelined] = job.kinds() else {
-        return Err(Fail::new("four kinds"));
-    };
-    check_eq(
-        (
-            adder.duration,
-            adder.busy,
-            adder.cap,
-            adder.area,
-            adder.draw,
-        ),
+    let units = [
         (1, 1, 11, 32, 8),
-    )?;
-    check_eq(
-        (alu.duration, alu.busy, alu.cap, alu.area, alu.draw),
         (1, 1, 12, 48, 12),
+        (2, 2, 13, 260, 70),
+        (2, 1, 14, 310, 90),
+    ];
+    let mut job = Job::new();
+    answered(&mut job, &[(library(0, 1), 4), (library(5, 1), 4)])?;
+    answered(
+        &mut job,
+        &[
+            (library(1, 11), 0),
+            (library(2, 12), 0),
+            (library(3, 13), 0),
+            (library(4, 14), 0),
+        ],
     )?;
-    check_eq(
-        (multiplier.duration, multiplier.busy, multiplier.cap),
-        (2, 2, 13),
-    )?;
-    check_eq((multiplier.area, multiplier.draw), (260, 70))?;
-    check_eq(
-        (pipelined.duration, pipelined.busy, pipelined.cap),
-        (2, 1, 14),
-    )?;
-    check_eq((pipelined.area, pipelined.draw), (310, 90))
+    check_eq(job.kinds().len(), 4)?;
+    for (kind, unit) in job.kinds().iter().zip(units) {
+        check_eq(
+            (kind.duration, kind.busy, kind.cap, kind.area, kind.draw),
+            unit,
+        )?;
+    }
+    Ok(())
 }
 
 #[test]
 fn busy_time_and_latency() -> Result<(), Fail> {
     let mut job = Job::new();
-    job.add_kind(GOOD)?;
-    check_eq(refused(&mut job, limits(6, 1)), 13).note("the limits come second")?;
-    check_eq(refused(&mut job, limits(6, 2)), 0)?;
-    check_eq(refused(&mut job, kind(3, 3, 1)), 13).note("the kind comes second")?;
-    check_eq(refused(&mut job, library(4, 1)), 0)?;
-    check_eq(job.kinds().len(), 2)?;
-    check_eq(refused(&mut job, limits(6, 1)), 13).note("every kind counts")?;
-    check_eq(job.latency(), 2)
+    answered(
+        &mut job,
+        &[
+            (kind(2, 2, 4), 0),
+            (limits(6, 1), 13),
+            (limits(6, 2), 0),
+            (kind(3, 3, 1), 13),
+            (library(4, 1), 0),
+            (limits(6, 1), 13),
+        ],
+    )?;
+    check_eq((job.kinds().len(), job.latency()), (2, 2))
 }
 
 #[test]
-fn two_faults_in_a_kind() -> Result<(), Fail> {
+fn two_faults_in_one_call() -> Result<(), Fail> {
     let mut job = Job::new();
-    job.set_limits(5, 1)?;
-    check_eq(refused(&mut job, kind(9, 2, 1)), 1).note("1 before 13")?;
-    check_eq(refused(&mut job, library(5, 65)), 4).note("4 before 1")?;
-    check_eq(refused(&mut job, library(3, 65)), 1).note("1 before 13")?;
-    for _ in 0..8 {
-        job.add_library_kind(1, 1)?;
-    }
-    check_eq(refused(&mut job, kind(9, 1, 1)), 1).note("1 before 9")?;
-    check_eq(refused(&mut job, library(0, 1)), 4).note("4 before 9")?;
-    check_eq(refused(&mut job, library(1, 65)), 1).note("1 before 9")?;
-    check_eq(refused(&mut job, kind(2, 2, 1)), 9).note("9 before 13")?;
-    check_eq(refused(&mut job, library(3, 1)), 9).note("9 before 13")?;
-    check_eq(job.kinds().len(), 8)
+    answered(
+        &mut job,
+        &[
+            (limits(5, 1), 0),
+            (kind(9, 2, 1), 1),
+            (library(5, 65), 4),
+            (library(3, 65), 1),
+        ],
+    )?;
+    answered(&mut job, &[(library(1, 1), 0); 8])?;
+    answered(
+        &mut job,
+        &[
+            (kind(9, 1, 1), 1),
+            (library(0, 1), 4),
+            (library(1, 65), 1),
+            (kind(2, 2, 1), 9),
+            (library(3, 1), 9),
+        ],
+    )?;
+    check_eq(job.kinds().len(), 8)?;
+    let mut slow = Job::new();
+    answered(&mut slow, &[(kind(2, 2, 1), 0), (limits(0, 1), 2)])
 }
 
 #[test]
 fn faults_in_an_operation() -> Result<(), Fail> {
     let mut job = Job::new();
-    check_eq(refused(&mut job, row(0, 9, 9)), 11).note("11 before 12")?;
-    check_eq(refused(&mut job, row(1, 0, 0)), 11)?;
-    job.add_kind(GOOD)?;
-    check_eq(refused(&mut job, row(2, 0, 0)), 11)?;
-    check_eq(refused(&mut job, row(1, 1, 0)), 12).note("an operation may not use itself")?;
-    check_eq(refused(&mut job, row(1, 0, 1)), 12)?;
+    answered(
+        &mut job,
+        &[
+            (row(0, 9, 9), 11),
+            (row(1, 0, 0), 11),
+            (kind(2, 2, 4), 0),
+            (row(2, 0, 0), 11),
+            (row(1, 1, 0), 12),
+            (row(1, 0, 1), 12),
+        ],
+    )?;
     check_eq(job.operations().len(), 0).note("a refusal leaves no row behind")?;
-    check_eq(refused(&mut job, row(1, 0, 0)), 0)?;
-    for n in 1..64 {
-        check_eq(refused(&mut job, row(1, n, n)), 0)?;
+    for n in 0..64 {
+        answered(&mut job, &[(row(1, n, n), 0)])?;
     }
-    check_eq(refused(&mut job, row(0, 99, 0)), 10).note("10 before 11 and 12")?;
+    answered(&mut job, &[(row(1, 0, 0), 10), (row(0, 99, 0), 10)])?;
     check_eq(job.operations().len(), 64)
 }
 
 #[test]
-fn two_faults_in_the_limits() -> Result<(), Fail> {
+fn the_single_calls() -> Result<(), Fail> {
     let mut job = Job::new();
-    job.add_kind(GOOD)?;
-    check_eq(refused(&mut job, limits(0, 1)), 2).note("2 before 13")
+    let figures = Figures {
+        duration: 2,
+        busy: 1,
+        cap: 3,
+        area: 4,
+        draw: 5,
+    };
+    check(job.add_kind(figures).is_ok())?;
+    check(job.add_library_kind(3, 7).is_ok())?;
+    check(job.set_limits(9, 6).is_ok())?;
+    let operation = Operation {
+        kind: 2,
+        left: 0,
+        right: 0,
+    };
+    check(job.add_operation(operation).is_ok())?;
+    check_eq(
+        (
+            job.kinds().len(),
+            job.operations().len(),
+            job.steps(),
+            job.latency(),
+        ),
+        (2, 1, 9, 6),
+    )?;
+    check_eq(job.frame(1).ok(), Some((1, 8)))
 }
 
 #[test]
@@ -180,8 +217,10 @@ fn the_numbers_of_refusals() -> Result<(), Fail> {
         Refusal::NothingToSearch,
         Refusal::UnknownOperation,
     ];
-    for (i, refusal) in all.iter().enumerate() {
-        check_eq(refusal.number() as usize, i + 1)?;
+    let mut expected = 0;
+    for refusal in all {
+        expected += 1;
+        check_eq(refusal.number(), expected)?;
     }
     Ok(())
 }

@@ -1,6 +1,7 @@
 //! A job for the planner: kinds of unit, operations, limits, the frame of each operation, and the job file.
-pub mod job;
+mod framed;
 
+pub use framed::Job;
 pub use rules::edit::Edit;
 pub use rules::kind::Figures;
 pub use rules::kind::Kind;

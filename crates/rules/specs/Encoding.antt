@@ -13,15 +13,15 @@ use Rattle.rules.specs.Files.{loaded}
 
 -- a number of 16 bits before other bytes, the higher byte first
 abbrev pub two-bytes : ℕ → List ℕ → List ℕ
-two-bytes n rest = (n / 256) ∷ ((n % 256) ∷ rest)
+two-bytes n rest = (n / 256) ∷ (n % 256) ∷ rest
 
 -- the record of an edit: its length, its tag, its fields
 abbrev pub record-of : Edit → List ℕ
 record-of (AddKind f) =
-    0 ∷ (8 ∷ (1 ∷ (f .duration ∷ (f .busy ∷ (f .cap ∷ two-bytes (f .area) (two-bytes (f .draw) []))))))
-record-of (AddOperation o) = 0 ∷ (4 ∷ (2 ∷ (o .kind ∷ (o .left ∷ (o .right ∷ [])))))
-record-of (SetLimits t l) = 0 ∷ (3 ∷ (3 ∷ (t ∷ (l ∷ []))))
-record-of (AddLibraryKind n c) = 0 ∷ (3 ∷ (4 ∷ (n ∷ (c ∷ []))))
+    0 ∷ 8 ∷ 1 ∷ f .duration ∷ f .busy ∷ f .cap ∷ two-bytes (f .area) (two-bytes (f .draw) [])
+record-of (AddOperation o) = 0 ∷ 4 ∷ 2 ∷ o .kind ∷ o .left ∷ o .right ∷ []
+record-of (SetLimits t l) = 0 ∷ 3 ∷ 3 ∷ t ∷ l ∷ []
+record-of (AddLibraryKind n c) = 0 ∷ 3 ∷ 4 ∷ n ∷ c ∷ []
 
 abbrev pub records-of : List Edit → List ℕ
 records-of [] = []

@@ -56,7 +56,7 @@ abbrev pub with-records : ℕ → Job → ℕ → List ℕ → Result Job (ℕ �
 with-records zero j o bytes = Ok j
 with-records (suc most) j o [] = Ok j
 with-records (suc most) j o (high ∷ []) = Err (number TornRecord, o)
-with-records (suc most) j o (high ∷ (low ∷ rest)) =
+with-records (suc most) j o (high ∷ low ∷ rest) =
     cond (ltb (length rest) (word high low)) (Err (number TornRecord, o))
     (elim (with-record j (take (word high low) rest)) [
       | Err why ↦ Err (why, o)
@@ -73,8 +73,8 @@ loaded (version ∷ rest) =
 abbrev pub Split : List ℕ → Option (RefT (List ℕ) × RefT (List ℕ)) → Type 0
 Split [] r = r ≡ None
 Split (high ∷ []) r = r ≡ None
-Split (high ∷ (low ∷ rest)) None = length rest < word high low
-Split (high ∷ (low ∷ rest)) (Some s) =
+Split (high ∷ low ∷ rest) None = length rest < word high low
+Split (high ∷ low ∷ rest) (Some s) =
     (word high low ≤ length rest) × (now (s .0) ≡ take (word high low) rest) × (now (s .1) ≡ drop (word high low) rest)
 
 -- ---- what a file says
@@ -82,17 +82,17 @@ Split (high ∷ (low ∷ rest)) (Some s) =
 -- a record's tag and fields stand for an edit
 pub data Stands-for : List ℕ → Edit → Type 0 where
   kind : (d r c area-high area-low draw-high draw-low : ℕ) →
-      Stands-for (1 ∷ (d ∷ (r ∷ (c ∷ (area-high ∷ (area-low ∷ (draw-high ∷ (draw-low ∷ []))))))))
+      Stands-for (1 ∷ d ∷ r ∷ c ∷ area-high ∷ area-low ∷ draw-high ∷ draw-low ∷ [])
       (AddKind (figures d r c (word area-high area-low) (word draw-high draw-low)))
-  row : (k a b : ℕ) → Stands-for (2 ∷ (k ∷ (a ∷ (b ∷ [])))) (AddOperation (operation k a b))
-  limits : (t l : ℕ) → Stands-for (3 ∷ (t ∷ (l ∷ []))) (SetLimits t l)
-  library-kind : (n c : ℕ) → Stands-for (4 ∷ (n ∷ (c ∷ []))) (AddLibraryKind n c)
+  row : (k a b : ℕ) → Stands-for (2 ∷ k ∷ a ∷ b ∷ []) (AddOperation (operation k a b))
+  limits : (t l : ℕ) → Stands-for (3 ∷ t ∷ l ∷ []) (SetLimits t l)
+  library-kind : (n c : ℕ) → Stands-for (4 ∷ n ∷ c ∷ []) (AddLibraryKind n c)
 
 -- what reading the records from an offset on comes to, record by record, each as long as its length says
 pub data Reads : Job → ℕ → List ℕ → Result Job (ℕ × ℕ) → Type 0 where
   ended : {j : Job} {o : ℕ} → Reads j o [] (Ok j)
   no-length : {j : Job} {o high : ℕ} → Reads j o (high ∷ []) (Err (6, o))
-  cut-short : {j : Job} {o high low : ℕ} {rest : List ℕ} → length rest < word high low → Reads j o (high ∷ (low ∷ rest)) (Err (6, o))
+  cut-short : {j : Job} {o high low : ℕ} {rest : List ℕ} → length rest < word high low → Reads j o (high ∷ low ∷ rest) (Err (6, o))
   unknown : {j : Job} {o high low : ℕ} (body rest : List ℕ) → length body ≡ word high low → ((e : Edit) → Stands-for body e → ⊥)
       → Reads j o (high ∷ (low ∷ (body ++ rest))) (Err (7, o))
   refused : {j : Job} {o high low why : ℕ} {e : Edit} (body rest : List ℕ) → length body ≡ word high low → Stands-for body e → edited j e ≡ Err why

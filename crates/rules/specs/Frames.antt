@@ -27,6 +27,7 @@ readable ready (suc p) = getD ready p 1
 abbrev pub earliest : List ℕ → Operation → ℕ
 earliest ready o = max (readable ready (o .left)) (readable ready (o .right))
 
+-- the earliest starts of `os`, which follow the operations that `ready` has
 abbrev pub earliests-after : Job → List ℕ → List Operation → List ℕ
 earliests-after j ready [] = []
 earliests-after j ready (o ∷ os) =
@@ -53,10 +54,12 @@ before-users n d limit (o ∷ os) (l ∷ ls) =
 abbrev pub last-start : Job → ℕ → ℤ
 last-start j d = pos (j .steps) -ℤ pos d +ℤ pos 1
 
+-- the latest starts of operation n, the first of `os`, and of those after it
 abbrev pub latests-from : Job → ℕ → List Operation → List ℤ
 latests-from j n [] = []
 latests-from j n (o ∷ os) =
-    before-users n (durationOf j o) (last-start j (durationOf j o)) os (latests-from j (suc n) os) ∷ latests-from j (suc n) os
+    let later : List ℤ = latests-from j (suc n) os in
+    before-users n (durationOf j o) (last-start j (durationOf j o)) os later ∷ later
 
 -- the latest start of each operation
 abbrev pub latests : Job → List ℤ

@@ -10,7 +10,16 @@ pub fn edit_of(body: &[u8]) -> Option<Edit>
     ensures { λ r. ⌜ r ≡ edit-of (now (body .entry)) ⌝ }
 {
     match body {
-        [1, duration, busy, cap, area_high, area_low, draw_high, draw_low] => Some(Edit::AddKind(Figures {
+        [
+            1,
+            duration,
+            busy,
+            cap,
+            area_high,
+            area_low,
+            draw_high,
+            draw_low,
+        ] => Some(Edit::AddKind(Figures {
             duration: *duration,
             busy: *busy,
             cap: *cap,

@@ -1,5 +1,5 @@
 //! A job as text: a line for each kind, one for the limits, and a line for each operation with its operands and its frame.
-use job::job::Job;
+use job::Job;
 use std::fmt;
 
 #[derive(Drop)]

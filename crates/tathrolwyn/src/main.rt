@@ -2,7 +2,7 @@
 mod input;
 mod listing;
 
-use job::job::Job;
+use job::Job;
 use listing::Listing;
 use listing::ListingDisplay;
 use std::error::AnyError;

@@ -11,12 +11,12 @@ use super::MOST_KINDS;
 use super::MOST_OPERATIONS;
 use super::MOST_STEPS;
 use super::Tables;
+use crate::table::Table;
 use rules::edit::Edit;
 use rules::kind::Kind;
 use rules::library::library_kind;
 use rules::operation::Operation;
 use rules::refusal::Refusal;
-use crate::table::Table;
 
 impl Tables {
     /// No kinds, no operations, one step, latency 0.

@@ -14,7 +14,7 @@ use Rattle.tables.specs.Tables.{filled}
 use Rattle.rules.proofs.FramesRight.{frames-right, earliest-small}
 use Rattle.job.proofs.Questions.{row-of, frame-told}
 use Rattle.rules.proofs.Validity.{valid-out}
-use Rattle.job.proofs.job.Job.frame.Needs as need
+use Rattle.job.proofs.framed.Job.frame.Needs as need
 
 pub cast-result : need.cast-result
 cast-result c =

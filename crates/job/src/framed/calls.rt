@@ -88,7 +88,7 @@ impl Job {
     pub fn load(&mut self, file: &[u8]) -> Result<(), FileRefusal>
         ensures exact { λ r. ⌜ Became (job-of (now (self .entry))) (loaded (now (file .entry))) (told-file r) (job-of (now (self .exit))) ⌝ }
         ensures read { λ _. ⌜ Loads (now (file .entry)) (loaded (now (file .entry))) ⌝ }
-        ensures written { λ _. ⌜ Files-stand-for-edits ⌝ }
+        ensures stands_for { λ _. ⌜ Files-stand-for-edits ⌝ }
     {
         let tables = Tables::read(file)?;
         *self = Job::of(tables);

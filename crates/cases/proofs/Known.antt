@@ -1,0 +1,15 @@
+-- Refusals, library and records, computed.
+use mathlib.Core.Path.{refl}
+use Rattle.cases.specs.Jobs.{Known-jobs}
+
+pub known-jobs : Known-jobs
+known-jobs = record {
+  numbers = refl;
+  new = (refl, refl);
+  by-library = refl;
+  by-file = refl;
+  by-library-file = refl;
+  loaded-over = refl;
+  refused-over = refl;
+  refused-edits = refl;
+}

@@ -1,0 +1,3 @@
+mod Answered
+mod Framed
+mod Known
