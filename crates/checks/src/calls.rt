@@ -217,10 +217,8 @@ fn the_numbers_of_refusals() -> Result<(), Fail> {
         Refusal::NothingToSearch,
         Refusal::UnknownOperation,
     ];
-    let mut expected = 0;
-    for refusal in all {
-        expected += 1;
-        check_eq(refusal.number(), expected)?;
+    for (i, refusal) in all.iter().enumerate() {
+        check_eq(refusal.number() as usize, i + 1)?;
     }
     Ok(())
 }

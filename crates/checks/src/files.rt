@@ -12,7 +12,7 @@ struct Case {
     answer: Option<(u8, usize)>,
 }
 
-fn case(what: &'static str, file: &'static [u8], answer: Option<(u8, usize)>) -> Case {
+fn given(what: &'static str, file: &'static [u8], answer: Option<(u8, usize)>) -> Case {
     Case { what, file, answer }
 }
 
@@ -43,11 +43,11 @@ fn repeated(heap: Global, first: &[u8], part: &[u8], times: usize) -> Result<Vec
 fn a_file_as_a_whole() -> Result<(), Fail> {
     all_answered(
         &[
-            case("empty", &[], Some((5, 0))),
-            case("version 0", &[0], Some((5, 0))),
-            case("version 2", &[2, 0, 3, 3, 6, 4], Some((5, 0))),
-            case("no records", &[1], None),
-            case("one record", &[1, 0, 3, 3, 6, 4], None),
+            given("empty", &[], Some((5, 0))),
+            given("version 0", &[0], Some((5, 0))),
+            given("version 2", &[2, 0, 3, 3, 6, 4], Some((5, 0))),
+            given("no records", &[1], None),
+            given("one record", &[1, 0, 3, 3, 6, 4], None),
         ],
     )
 }
@@ -66,12 +66,12 @@ fn the_longest_file(rt: LibcRuntime) -> Result<(), Fail> {
 fn torn_records() -> Result<(), Fail> {
     all_answered(
         &[
-            case("a body cut short", &[1, 0, 3, 3, 6], Some((6, 1))),
-            case("one byte of a length", &[1, 0], Some((6, 1))),
-            case("one byte left", &[1, 0, 3, 3, 6, 4, 0], Some((6, 6))),
-            case("an unknown tag too", &[1, 0, 9, 5, 0], Some((6, 1))),
-            case("a fault of the call too", &[1, 0, 3, 3, 0], Some((6, 1))),
-            case("the high byte counts", &[1, 1, 3, 3, 6, 4], Some((6, 1))),
+            given("a body cut short", &[1, 0, 3, 3, 6], Some((6, 1))),
+            given("one byte of a length", &[1, 0], Some((6, 1))),
+            given("one byte left", &[1, 0, 3, 3, 6, 4, 0], Some((6, 6))),
+            given("an unknown tag too", &[1, 0, 9, 5, 0], Some((6, 1))),
+            given("a fault of the call too", &[1, 0, 3, 3, 0], Some((6, 1))),
+            given("the high byte counts", &[1, 1, 3, 3, 6, 4], Some((6, 1))),
         ],
     )
 }
@@ -80,23 +80,23 @@ fn torn_records() -> Result<(), Fail> {
 fn unknown_records() -> Result<(), Fail> {
     all_answered(
         &[
-            case("length 0", &[1, 0, 0], Some((7, 1))),
-            case("a tag alone", &[1, 0, 1, 3], Some((7, 1))),
-            case("tag 0", &[1, 0, 3, 0, 6, 4], Some((7, 1))),
-            case("tag 5", &[1, 0, 3, 5, 6, 4], Some((7, 1))),
-            case("limits one too long", &[1, 0, 4, 3, 6, 4, 0], Some((7, 1))),
-            case("limits one too short", &[1, 0, 2, 3, 6], Some((7, 1))),
-            case(
+            given("length 0", &[1, 0, 0], Some((7, 1))),
+            given("a tag alone", &[1, 0, 1, 3], Some((7, 1))),
+            given("tag 0", &[1, 0, 3, 0, 6, 4], Some((7, 1))),
+            given("tag 5", &[1, 0, 3, 5, 6, 4], Some((7, 1))),
+            given("limits one too long", &[1, 0, 4, 3, 6, 4, 0], Some((7, 1))),
+            given("limits one too short", &[1, 0, 2, 3, 6], Some((7, 1))),
+            given(
                 "an operation one too long",
                 &[1, 0, 5, 2, 1, 0, 0, 0],
                 Some((7, 1)),
             ),
-            case(
+            given(
                 "a library kind one too long",
                 &[1, 0, 4, 4, 1, 1, 1],
                 Some((7, 1)),
             ),
-            case(
+            given(
                 "a kind one too short",
                 &[1, 0, 7, 1, 1, 1, 1, 0, 0, 0],
                 Some((7, 1)),
@@ -110,35 +110,35 @@ fn unknown_records() -> Result<(), Fail> {
 fn refused_behind_the_first_record() -> Result<(), Fail> {
     all_answered(
         &[
-            case(
+            given(
                 "busy above duration",
                 &[1, 0, 3, 3, 6, 1, 0, 8, 1, 1, 2, 4, 0, 0, 0, 0],
                 Some((1, 6)),
             ),
-            case("no steps", &[1, 0, 3, 3, 6, 1, 0, 3, 3, 0, 1], Some((2, 6))),
-            case(
+            given("no steps", &[1, 0, 3, 3, 6, 1, 0, 3, 3, 0, 1], Some((2, 6))),
+            given(
                 "library number 5",
                 &[1, 0, 3, 3, 6, 1, 0, 3, 4, 5, 1],
                 Some((4, 6)),
             ),
-            case("torn", &[1, 0, 3, 3, 6, 1, 0, 3, 3, 6], Some((6, 6))),
-            case("unknown", &[1, 0, 3, 3, 6, 1, 0, 2, 9, 9], Some((7, 6))),
-            case(
+            given("torn", &[1, 0, 3, 3, 6, 1, 0, 3, 3, 6], Some((6, 6))),
+            given("unknown", &[1, 0, 3, 3, 6, 1, 0, 2, 9, 9], Some((7, 6))),
+            given(
                 "no such kind",
                 &[1, 0, 3, 3, 6, 1, 0, 4, 2, 1, 0, 0],
                 Some((11, 6)),
             ),
-            case(
+            given(
                 "its own operand",
                 &[1, 0, 3, 3, 6, 1, 0, 3, 4, 1, 1, 0, 4, 2, 1, 1, 0],
                 Some((12, 11)),
             ),
-            case(
+            given(
                 "the kind comes second",
                 &[1, 0, 3, 3, 6, 1, 0, 3, 4, 3, 1],
                 Some((13, 6)),
             ),
-            case(
+            given(
                 "the limits come second",
                 &[1, 0, 3, 4, 3, 1, 0, 3, 3, 6, 1],
                 Some((13, 6)),

@@ -77,10 +77,11 @@ kind-added j k valid few fast =
       earlier-operands = valid .earlier-operands;
     }
 
-pub operation-added : (j : Job) (o : Operation) → Valid j → length (j .operations) < 64 → 1 ≤ o .kind → o .kind ≤ length (j .kinds) →
-    o .left ≤ length (j .operations) → o .right ≤ length (j .operations) → Valid (plus-operation j o)
-operation-added j o valid few some held left right =
+pub operation-added : (j : Job) (o : Operation) → Valid j → length (j .operations) < 64 → (leb 1 (o .kind) && leb (o .kind) (length (j .kinds))) ≡ true →
+    leb (o .left) (length (j .operations)) ≡ true → leb (o .right) (length (j .operations)) ≡ true → Valid (plus-operation j o)
+operation-added j o valid few held left right =
     let more = length-append (j .operations) (o ∷ []) in
+    let kinds = and-parts (leb 1 (o .kind)) (leb (o .kind) (length (j .kinds))) held in
     record {
       few-kinds = valid .few-kinds;
       few-operations = omega arith;
@@ -88,17 +89,19 @@ operation-added j o valid few some held left right =
       few-steps = valid .few-steps;
       short-latency = valid .short-latency;
       restarts = valid .restarts;
-      held-kind = push-holds (λ n x. (1 ≤ x .kind) × (x .kind ≤ length (j .kinds))) (j .operations) o (valid .held-kind) (some, held);
-      earlier-operands = push-holds (λ n x. (x .left < n) × (x .right < n)) (j .operations) o (valid .earlier-operands) (omega arith, omega arith);
+      held-kind = push-holds (λ n x. (1 ≤ x .kind) × (x .kind ≤ length (j .kinds))) (j .operations) o (valid .held-kind)
+          (leb-true 1 (o .kind) (kinds .0), leb-true (o .kind) (length (j .kinds)) (kinds .1));
+      earlier-operands = push-holds (λ n x. (x .left < n) × (x .right < n)) (j .operations) o (valid .earlier-operands)
+          (omega (arith, leb-true (o .left) (length (j .operations)) left), omega (arith, leb-true (o .right) (length (j .operations)) right));
     }
 
-pub limits-set : (j : Job) (t l : ℕ) → Valid j → 1 ≤ t → t ≤ 64 → l ≤ 64 → all-restart l (j .kinds) ≡ true → Valid (limited j t l)
-limits-set j t l valid some few short fast = record {
+pub limits-set : (j : Job) (t l : ℕ) → Valid j → ((leb 1 t && leb t 64) && leb l 64) ≡ true → all-restart l (j .kinds) ≡ true → Valid (limited j t l)
+limits-set j t l valid inside fast = record {
   few-kinds = valid .few-kinds;
   few-operations = valid .few-operations;
-  some-steps = some;
-  few-steps = few;
-  short-latency = short;
+  some-steps = grind (arith, tells);
+  few-steps = grind (arith, tells);
+  short-latency = grind (arith, tells);
   restarts = all-restart-tells l (j .kinds) fast;
   held-kind = valid .held-kind;
   earlier-operands = valid .earlier-operands;
@@ -127,18 +130,14 @@ module _ (j : Job) (valid : Valid j) where
       where-valid (ltb (length (j .operations)) 64) _ _ (λ _ few.
       where-valid (leb 1 (o .kind) && leb (o .kind) (length (j .kinds))) _ _ (λ _ held.
       where-valid (leb (o .left) (length (j .operations)) && leb (o .right) (length (j .operations))) _ _ (λ _ earlier.
-      let kinds = and-parts (leb 1 (o .kind)) (leb (o .kind) (length (j .kinds))) held in
       let operands = and-parts (leb (o .left) (length (j .operations))) (leb (o .right) (length (j .operations))) earlier in
-      operation-added j o valid (ltb-true (length (j .operations)) 64 few) (leb-true 1 (o .kind) (kinds .0))
-      (leb-true (o .kind) (length (j .kinds)) (kinds .1))
-      (leb-true (o .left) (length (j .operations)) (operands .0))
-      (leb-true (o .right) (length (j .operations)) (operands .1)))))
+      operation-added j o valid (ltb-true (length (j .operations)) 64 few) held (operands .0) (operands .1))))
 
   limits-valid : (t l : ℕ) → Leaves-valid (with-limits j t l)
   limits-valid t l =
       where-valid ((leb 1 t && leb t 64) && leb l 64) _ _ (λ _ range.
       where-valid (all-restart l (j .kinds)) _ _ (λ _ fast.
-      limits-set j t l valid (grind (arith, tells)) (grind (arith, tells)) (grind (arith, tells)) fast))
+      limits-set j t l valid range fast))
 
   pub edited-valid : (e : Edit) → Leaves-valid (edited j e)
   edited-valid (AddKind f) = kind-valid (kind-of f)

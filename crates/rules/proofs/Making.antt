@@ -9,7 +9,7 @@ use lib.Dec.{leb, ltb}
 use Rattle.std.specs.declared.result.Result.{Result}
 use Rattle.std.specs.declared.result.Result.the-variants.{Ok, Err}
 use Rattle.std.specs.declared.option.Option.the-variants.{Some}
-use Rattle.std.proofs.shelf.Tests.{and-from, lt-ltb}
+use Rattle.std.proofs.shelf.Tests.{and-from, le-leb}
 use Rattle.std.proofs.shelf.Ways.{tells}
 use Rattle.rules.specs.declared.edit.Edit.the-variants.{AddKind, AddOperation, SetLimits}
 use Rattle.rules.specs.declared.kind.Kind.{Kind}
@@ -79,7 +79,7 @@ all-restart-from l (x ∷ ks) h = and-from (restarts l x) (all-restart l ks) (fi
 
 limits-accepted : (j : Job) (t l : ℕ) → 1 ≤ t → t ≤ 64 → l ≤ 64 → all-restart l (j .kinds) ≡ true → changed j (edit (SetLimits t l)) ≡ limited j t l
 limits-accepted j t l some few short fast =
-    ap (unless-refused j) (was-accepted j (with-limits j t l) (limited j t l) (limits-taken j t l some few short fast))
+    ap (unless-refused j) (was-accepted j (with-limits j t l) (limited j t l) (limits-taken j t l (and-from _ _ (and-from _ _ (le-leb 1 t some) (le-leb t 64 few)) (le-leb l 64 short)) fast))
 
 add-operation : Operation → Change
 add-operation o = edit (AddOperation o)
@@ -92,7 +92,9 @@ operation-accepted : (j : Job) (o : Operation) → length (j .operations) < 64 �
 unfolding add-operation
 operation-accepted j o few h =
     ap (unless-refused j)
-    (was-accepted j (with-operation j o) (plus-operation j o) (operation-taken j o few (h .0) (h .1) (h .2) (h .3) (plus-operation j o) refl))
+    (was-accepted j (with-operation j o) (plus-operation j o)
+    (operation-taken j o few (and-from _ _ (le-leb 1 (o .kind) (h .0)) (le-leb (o .kind) (length (j .kinds)) (h .1)))
+    (le-leb (o .left) (length (j .operations)) (h .2)) (le-leb (o .right) (length (j .operations)) (h .3)) (plus-operation j o) refl))
 
 -- the job with these operations in place of its own
 abbrev of-operations : Job → List Operation → Job

@@ -42,44 +42,41 @@ module _ (j : Job) (k : Kind) (room : length (j .kinds) < 8) where
       where-on (λ w. Became j w (Ok tt) now) (restarts (j .latency) k) _ _ fast (λ _. (refl, e)))
 
 module _ (j : Job) (o : Operation) (room : length (j .operations) < 64) where
-  pub kind-not-held : (o .kind ≡ 0) ⊎ (length (j .kinds) < o .kind) → Became j (with-operation j o) (Err 11) j
+  with-room : ltb (length (j .operations)) 64 ≡ true
+  with-room = lt-ltb (length (j .operations)) 64 room
+
+  pub kind-not-held : (leb 1 (o .kind) && leb (o .kind) (length (j .kinds))) ≡ false → Became j (with-operation j o) (Err 11) j
   kind-not-held none =
-      where-on (λ w. Became j w (Err 11) j) (ltb (length (j .operations)) 64) _ _ (lt-ltb (length (j .operations)) 64 room) (λ _.
-      where-off (λ w. Became j w (Err 11) j) (leb 1 (o .kind) && leb (o .kind) (length (j .kinds))) _ _ (grind (arith, tells)) (refl, refl))
+      where-on (λ w. Became j w (Err 11) j) (ltb (length (j .operations)) 64) _ _ with-room (λ _.
+      where-off (λ w. Became j w (Err 11) j) (leb 1 (o .kind) && leb (o .kind) (length (j .kinds))) _ _ none (refl, refl))
 
-  module _ (some : 1 ≤ o .kind) (held : o .kind ≤ length (j .kinds)) where
-    kind-held : (leb 1 (o .kind) && leb (o .kind) (length (j .kinds))) ≡ true
-    kind-held = and-from _ _ (le-leb 1 (o .kind) some) (le-leb (o .kind) (length (j .kinds)) held)
-
-    pub operand-not-held : (length (j .operations) < o .left) ⊎ (length (j .operations) < o .right) → Became j (with-operation j o) (Err 12) j
+  module _ (held : (leb 1 (o .kind) && leb (o .kind) (length (j .kinds))) ≡ true) where
+    pub operand-not-held : (leb (o .left) (length (j .operations)) && leb (o .right) (length (j .operations))) ≡ false → Became j (with-operation j o) (Err 12) j
     operand-not-held beyond =
-        where-on (λ w. Became j w (Err 12) j) (ltb (length (j .operations)) 64) _ _ (lt-ltb (length (j .operations)) 64 room) (λ _.
-        where-on (λ w. Became j w (Err 12) j) (leb 1 (o .kind) && leb (o .kind) (length (j .kinds))) _ _ kind-held (λ _.
-        where-off (λ w. Became j w (Err 12) j) (leb (o .left) (length (j .operations)) && leb (o .right) (length (j .operations))) _ _ (grind (arith, tells)) (refl, refl)))
+        where-on (λ w. Became j w (Err 12) j) (ltb (length (j .operations)) 64) _ _ with-room (λ _.
+        where-on (λ w. Became j w (Err 12) j) (leb 1 (o .kind) && leb (o .kind) (length (j .kinds))) _ _ held (λ _.
+        where-off (λ w. Became j w (Err 12) j) (leb (o .left) (length (j .operations)) && leb (o .right) (length (j .operations))) _ _ beyond (refl, refl)))
 
-    pub operation-taken : o .left ≤ length (j .operations) → o .right ≤ length (j .operations) → (now : Job) → now ≡ plus-operation j o → Became j (with-operation j o) (Ok tt) now
+    pub operation-taken : leb (o .left) (length (j .operations)) ≡ true → leb (o .right) (length (j .operations)) ≡ true → (now : Job) → now ≡ plus-operation j o → Became j (with-operation j o) (Ok tt) now
     operation-taken left right now e =
-        where-on (λ w. Became j w (Ok tt) now) (ltb (length (j .operations)) 64) _ _ (lt-ltb (length (j .operations)) 64 room) (λ _.
-        where-on (λ w. Became j w (Ok tt) now) (leb 1 (o .kind) && leb (o .kind) (length (j .kinds))) _ _ kind-held (λ _.
+        where-on (λ w. Became j w (Ok tt) now) (ltb (length (j .operations)) 64) _ _ with-room (λ _.
+        where-on (λ w. Became j w (Ok tt) now) (leb 1 (o .kind) && leb (o .kind) (length (j .kinds))) _ _ held (λ _.
         where-on (λ w. Became j w (Ok tt) now) (leb (o .left) (length (j .operations)) && leb (o .right) (length (j .operations))) _ _
-        (and-from _ _ (le-leb (o .left) (length (j .operations)) left) (le-leb (o .right) (length (j .operations)) right)) (λ _. (refl, e))))
+        (and-from _ _ left right) (λ _. (refl, e))))
 
 module _ (j : Job) (t l : ℕ) where
-  pub limits-out : (t < 1) ⊎ ((64 < t) ⊎ (64 < l)) → Became j (with-limits j t l) (Err 2) j
-  limits-out out = where-off (λ w. Became j w (Err 2) j) ((leb 1 t && leb t 64) && leb l 64) _ _ (grind (arith, tells)) (refl, refl)
+  pub limits-out : ((leb 1 t && leb t 64) && leb l 64) ≡ false → Became j (with-limits j t l) (Err 2) j
+  limits-out out = where-off (λ w. Became j w (Err 2) j) ((leb 1 t && leb t 64) && leb l 64) _ _ out (refl, refl)
 
-  module _ (some : 1 ≤ t) (few : t ≤ 64) (short : l ≤ 64) where
-    in-range : ((leb 1 t && leb t 64) && leb l 64) ≡ true
-    in-range = and-from _ _ (and-from _ _ (le-leb 1 t some) (le-leb t 64 few)) (le-leb l 64 short)
-
+  module _ (inside : ((leb 1 t && leb t 64) && leb l 64) ≡ true) where
     pub limits-too-short : all-restart l (j .kinds) ≡ false → Became j (with-limits j t l) (Err 13) j
     limits-too-short slow =
-        where-on (λ w. Became j w (Err 13) j) ((leb 1 t && leb t 64) && leb l 64) _ _ in-range (λ _.
+        where-on (λ w. Became j w (Err 13) j) ((leb 1 t && leb t 64) && leb l 64) _ _ inside (λ _.
         where-off (λ w. Became j w (Err 13) j) (all-restart l (j .kinds)) _ _ slow (refl, refl))
 
     pub limits-taken : all-restart l (j .kinds) ≡ true → Became j (with-limits j t l) (Ok tt) (limited j t l)
     limits-taken fast =
-        where-on (λ w. Became j w (Ok tt) (limited j t l)) ((leb 1 t && leb t 64) && leb l 64) _ _ in-range (λ _.
+        where-on (λ w. Became j w (Ok tt) (limited j t l)) ((leb 1 t && leb t 64) && leb l 64) _ _ inside (λ _.
         where-on (λ w. Became j w (Ok tt) (limited j t l)) (all-restart l (j .kinds)) _ _ fast (λ _. (refl, refl)))
 
 -- what is left of the kinds, one kind on and at the end

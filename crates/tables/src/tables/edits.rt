@@ -1,5 +1,7 @@
 //! Editing the tables. Each edit tests in a fixed order, and a refused one leaves the tables as they were.
 ghost use mathlib.Core.Path.{_≡_};
+ghost use mathlib.Core.Bool.{_&&_};
+ghost use lib.Dec.{leb};
 ghost use lib.ListN.{length};
 ghost use Rattle.std.specs.declared.result.Result.the-variants.{Ok, Err};
 ghost use Rattle.rules.specs.Edits.{with-kind, with-operation, with-limits, all-restart, edited, Became};
@@ -17,6 +19,13 @@ use rules::kind::Kind;
 use rules::library::library_kind;
 use rules::operation::Operation;
 use rules::refusal::Refusal;
+
+// Whether a number of steps and a latency are such as a job may have.
+fn in_range(steps: u8, latency: u8) -> bool
+    ensures { λ r. ⌜ r ≡ ((leb 1 steps && leb steps 64) && leb latency 64) ⌝ }
+{
+    steps >= 1 && steps <= MOST_STEPS && latency <= LONGEST_LATENCY
+}
 
 impl Tables {
     /// No kinds, no operations, one step, latency 0.
@@ -43,11 +52,11 @@ impl Tables {
         }
     }
 
+    // Adds a kind whose figures are in range.
     fn add_kind(&mut self, kind: Kind) -> Result<(), Refusal>
         ensures { λ r. ⌜ Became (tables-job (now (self .entry))) (with-kind (tables-job (now (self .entry))) (Ok kind)) (told r) (tables-job (now (self .exit))) ⌝ }
     {
-        let held = self.kinds.as_slice().len();
-        if held >= MOST_KINDS {
+        if self.kinds.as_slice().len() >= MOST_KINDS {
             return Err(Refusal::TooManyKinds);
         }
         if !kind.restarts_within(self.latency) {
@@ -57,18 +66,33 @@ impl Tables {
         Ok(())
     }
 
+    // Whether there is a kind with this number.
+    fn kind_held(&self, number: u8) -> bool
+        ensures { λ r. ⌜ r ≡ (leb 1 number && leb number (length (tables-job (now (self .entry)) .kinds))) ⌝ }
+    {
+        number >= 1 && number as usize <= self.kinds.as_slice().len()
+    }
+
+    // Whether an operand is an outside input, or an operation that is held.
+    fn operand_held(&self, operand: u8) -> bool
+        ensures { λ r. ⌜ r ≡ leb operand (length (tables-job (now (self .entry)) .operations)) ⌝ }
+    {
+        operand as usize <= self.operations.as_slice().len()
+    }
+
     fn add_operation(&mut self, operation: Operation) -> Result<(), Refusal>
         ensures { λ r. ⌜ Became (tables-job (now (self .entry))) (with-operation (tables-job (now (self .entry))) operation) (told r) (tables-job (now (self .exit))) ⌝ }
     {
-        let kinds = self.kinds.as_slice().len();
-        let held = self.operations.as_slice().len();
-        if held >= MOST_OPERATIONS {
+        if self.operations.as_slice().len() >= MOST_OPERATIONS {
             return Err(Refusal::TooManyOperations);
         }
-        if operation.kind == 0 || operation.kind as usize > kinds {
+        if !self.kind_held(operation.kind) {
             return Err(Refusal::UnknownKind);
         }
-        if operation.left as usize > held || operation.right as usize > held {
+        if !self.operand_held(operation.left) {
+            return Err(Refusal::UnknownOperand);
+        }
+        if !self.operand_held(operation.right) {
             return Err(Refusal::UnknownOperand);
         }
         self.operations.push(operation);
@@ -90,7 +114,7 @@ impl Tables {
     fn set_limits(&mut self, steps: u8, latency: u8) -> Result<(), Refusal>
         ensures { λ r. ⌜ Became (tables-job (now (self .entry))) (with-limits (tables-job (now (self .entry))) steps latency) (told r) (tables-job (now (self .exit))) ⌝ }
     {
-        if steps == 0 || steps > MOST_STEPS || latency > LONGEST_LATENCY {
+        if !in_range(steps, latency) {
             return Err(Refusal::LimitOutOfRange);
         }
         if !self.all_restart(latency) {

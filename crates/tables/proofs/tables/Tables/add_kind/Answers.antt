@@ -14,7 +14,7 @@ use Rattle.tables.proofs.tables.Tables.add_kind.Needs as need
 
 pub returns-then-not-restarts-within : need.returns-then-not-restarts-within
 returns-then-not-restarts-within c =
-    kind-too-slow (tables-job (c .args .self .now)) (c .args .kind) (omega (arith, ap length (c .as-slice-held .ensures)))
+    kind-too-slow (tables-job (c .args .self .now)) (c .args .kind) (omega (arith, ap length (c .as-slice .ensures)))
     (sym (c .if-not-restarts-within .ensures tt))
 
 pub ghost-self : need.ghost-self
@@ -22,7 +22,7 @@ ghost-self c =
     let old : Job = tables-job (c .args .self .now) in
     let P : List Kind → Type 0 = λ ks. ∥ Valid (record { kinds = ks; operations = old .operations; steps = old .steps; latency = old .latency }) ∥₁ in (
       subst P (sym (c .push .ensures))
-          ∣ kind-added old (c .args .kind) (valid-out (c .args .self .now .valid)) (omega (arith, ap length (c .as-slice-held .ensures)))
+          ∣ kind-added old (c .args .kind) (valid-out (c .args .self .now .valid)) (omega (arith, ap length (c .as-slice .ensures)))
           (sym (c .if-not-restarts-within .ensures tt)) ∣₁,
       tt,
     )
@@ -30,5 +30,5 @@ ghost-self c =
 pub returns : need.returns
 returns c =
     let old : Job = tables-job (c .args .self .now) in
-    kind-taken old (c .args .kind) (omega (arith, ap length (c .as-slice-held .ensures))) (sym (c .if-not-restarts-within .ensures tt)) _
+    kind-taken old (c .args .kind) (omega (arith, ap length (c .as-slice .ensures))) (sym (c .if-not-restarts-within .ensures tt)) _
     (ap (λ (ks : List Kind). record { kinds = ks; operations = old .operations; steps = old .steps; latency = old .latency }) (c .push .ensures))
