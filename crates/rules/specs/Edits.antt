@@ -15,6 +15,7 @@ use Rattle.rules.specs.declared.kind.Figures.{Figures}
 use Rattle.rules.specs.declared.kind.Kind.{Kind}
 use Rattle.rules.specs.declared.library.LibraryUnit.{LibraryUnit}
 use Rattle.rules.specs.declared.operation.Operation.{Operation}
+use Rattle.rules.specs.declared.refusal.Refusal.{Refusal}
 use Rattle.rules.specs.declared.refusal.Refusal.the-variants.{
   FigureOutOfRange,
   LimitOutOfRange,
@@ -27,7 +28,7 @@ use Rattle.rules.specs.declared.refusal.Refusal.the-variants.{
 }
 use Rattle.rules.specs.Jobs.{Job, numbered}
 use Rattle.rules.specs.Library.{house-library, with-cap}
-use Rattle.rules.specs.Refusals.{number, where-holds}
+use Rattle.rules.specs.Refusals.{number, told, where-holds}
 
 -- the kind with these figures; areas and draws of 16 bits are always in range
 abbrev pub kind-of : Figures → Result Kind ℕ
@@ -106,3 +107,7 @@ edited j (SetLimits t l) = with-limits j t l
 abbrev pub Became : {E : Type 0} → Job → Result Job E → Result (Unit {0}) E → Job → Type 0
 Became old (Ok j) r now = (r ≡ Ok tt) × (now ≡ j)
 Became old (Err why) r now = (r ≡ Err why) × (now ≡ old)
+
+-- an edit of the job `old` was answered r and left `now`
+abbrev pub Carried-out : Job → Edit → Result (Unit {0}) Refusal → Job → Type 0
+Carried-out old e r now = Became old (edited old e) (told r) now

@@ -3,7 +3,7 @@ ghost use mathlib.Core.Path.{_≡_};
 ghost use Rattle.std.specs.Vec.{made};
 ghost use Rattle.rules.specs.Changes.{Made-are-valid};
 ghost use Rattle.rules.specs.declared.edit.Edit.the-variants.{AddKind, AddLibraryKind, AddOperation, SetLimits};
-ghost use Rattle.rules.specs.Edits.{edited, Became};
+ghost use Rattle.rules.specs.Edits.{Became, Carried-out};
 ghost use Rattle.rules.specs.Encoding.{Files-stand-for-edits};
 ghost use Rattle.rules.specs.Files.{loaded, Loads};
 ghost use Rattle.rules.specs.Frames.{frame-of, Framed};
@@ -44,7 +44,7 @@ impl Job {
 
     /// Makes one edit, or refuses it as the call for that edit does.
     pub fn edit(&mut self, edit: Edit) -> Result<(), Refusal>
-        ensures { λ r. ⌜ Became (job-of (now (self .entry))) (edited (job-of (now (self .entry))) edit) (told r) (job-of (now (self .exit))) ⌝ }
+        ensures { λ r. ⌜ Carried-out (job-of (now (self .entry))) edit r (job-of (now (self .exit))) ⌝ }
     {
         self.tables.edit(edit)?;
         self.earliest = self.tables.earliest_starts();
@@ -54,7 +54,7 @@ impl Job {
 
     /// Adds a kind by its figures. Refused: 1 a figure out of range, 9 a ninth kind, 13 a busy time above a latency that is not 0.
     pub fn add_kind(&mut self, figures: Figures) -> Result<(), Refusal>
-        ensures { λ r. ⌜ Became (job-of (now (self .entry))) (edited (job-of (now (self .entry))) (AddKind figures)) (told r) (job-of (now (self .exit))) ⌝ }
+        ensures { λ r. ⌜ Carried-out (job-of (now (self .entry))) (AddKind figures) r (job-of (now (self .exit))) ⌝ }
     {
         self.edit(Edit::AddKind(figures))
     }
@@ -62,14 +62,14 @@ impl Job {
     /// Adds a unit of the house library, by its number from 1, as a kind with a cap. Refused: 4 no such number, 1 a cap out of
     /// range, 9 a ninth kind, 13 a busy time above a latency that is not 0.
     pub fn add_library_kind(&mut self, number: u8, cap: u8) -> Result<(), Refusal>
-        ensures { λ r. ⌜ Became (job-of (now (self .entry))) (edited (job-of (now (self .entry))) (AddLibraryKind number cap)) (told r) (job-of (now (self .exit))) ⌝ }
+        ensures { λ r. ⌜ Carried-out (job-of (now (self .entry))) (AddLibraryKind number cap) r (job-of (now (self .exit))) ⌝ }
     {
         self.edit(Edit::AddLibraryKind { number, cap })
     }
 
     /// Adds an operation. Refused: 10 a 65th operation, 11 a kind that is not held, 12 an operand above the operations held.
     pub fn add_operation(&mut self, operation: Operation) -> Result<(), Refusal>
-        ensures { λ r. ⌜ Became (job-of (now (self .entry))) (edited (job-of (now (self .entry))) (AddOperation operation)) (told r) (job-of (now (self .exit))) ⌝ }
+        ensures { λ r. ⌜ Carried-out (job-of (now (self .entry))) (AddOperation operation) r (job-of (now (self .exit))) ⌝ }
     {
         self.edit(Edit::AddOperation(operation))
     }
@@ -77,7 +77,7 @@ impl Job {
     /// Sets the number of steps and the latency. Refused: 2 one of them out of range, 13 a kind with a busy time above a latency
     /// that is not 0.
     pub fn set_limits(&mut self, steps: u8, latency: u8) -> Result<(), Refusal>
-        ensures { λ r. ⌜ Became (job-of (now (self .entry))) (edited (job-of (now (self .entry))) (SetLimits steps latency)) (told r) (job-of (now (self .exit))) ⌝ }
+        ensures { λ r. ⌜ Carried-out (job-of (now (self .entry))) (SetLimits steps latency) r (job-of (now (self .exit))) ⌝ }
     {
         self.edit(Edit::SetLimits { steps, latency })
     }

@@ -4,7 +4,7 @@ ghost use mathlib.Core.Bool.{_&&_};
 ghost use lib.Dec.{leb};
 ghost use lib.ListN.{length};
 ghost use Rattle.std.specs.declared.result.Result.the-variants.{Ok, Err};
-ghost use Rattle.rules.specs.Edits.{with-kind, with-operation, with-limits, all-restart, edited, Became};
+ghost use Rattle.rules.specs.Edits.{with-kind, with-operation, with-limits, all-restart, Became, Carried-out};
 ghost use Rattle.tables.specs.Held.{tables-job};
 ghost use Rattle.rules.specs.Jobs.{fresh};
 ghost use Rattle.rules.specs.Refusals.{told};
@@ -127,7 +127,7 @@ impl Tables {
 
     /// Makes one edit, or refuses it and leaves the tables as they were.
     pub fn edit(&mut self, edit: Edit) -> Result<(), Refusal>
-        ensures { λ r. ⌜ Became (tables-job (now (self .entry))) (edited (tables-job (now (self .entry))) edit) (told r) (tables-job (now (self .exit))) ⌝ }
+        ensures { λ r. ⌜ Carried-out (tables-job (now (self .entry))) edit r (tables-job (now (self .exit))) ⌝ }
     {
         match edit {
             Edit::AddKind(figures) => self.add_kind(figures.kind()?),
