@@ -1,19 +1,15 @@
 //! Calls that change a job: what is accepted, what is refused, and in which order the tests of a call run.
+use crate::held::figures;
+use crate::held::has_kind;
+use crate::held::has_operation;
+use crate::held::holds;
+use crate::held::operation;
 use job::Edit;
-use job::Figures;
 use job::Job;
-use job::Operation;
-use job::Refusal;
 use std::test::*;
 
 fn kind(duration: u8, busy: u8, cap: u8) -> Edit {
-    Edit::AddKind(Figures {
-        duration,
-        busy,
-        cap,
-        area: 65_535,
-        draw: 65_535,
-    })
+    Edit::AddKind(figures(duration, busy, cap, 65_535, 65_535))
 }
 
 fn library(number: u8, cap: u8) -> Edit {
@@ -21,7 +17,7 @@ fn library(number: u8, cap: u8) -> Edit {
 }
 
 fn row(kind: u8, left: u8, right: u8) -> Edit {
-    Edit::AddOperation(Operation { kind, left, right })
+    Edit::AddOperation(operation(kind, left, right))
 }
 
 fn limits(steps: u8, latency: u8) -> Edit {
@@ -41,8 +37,9 @@ fn answered(job: &mut Job, edits: &[(Edit, u8)]) -> Result<(), Fail> {
 }
 
 #[test]
-fn figures_at_the_ends_of_their_ranges() -> Result<(), Fail> {
+fn the_ends_of_the_ranges() -> Result<(), Fail> {
     let mut job = Job::new();
+    check(holds(&job, 0, 0, 1, 0)).note("a new job")?;
     answered(
         &mut job,
         &[
@@ -51,53 +48,37 @@ fn figures_at_the_ends_of_their_ranges() -> Result<(), Fail> {
             (kind(2, 0, 1), 1),
             (kind(2, 3, 1), 1),
             (kind(1, 1, 65), 1),
+            (limits(0, 0), 2),
+            (limits(65, 0), 2),
+            (limits(1, 65), 2),
         ],
     )?;
-    check_eq(job.kinds().len(), 0).note("a refusal leaves no row behind")?;
-    answered(&mut job, &[(kind(8, 8, 64), 0), (kind(1, 1, 0), 0)])?;
-    check_eq(job.kinds().len(), 2)
-}
-
-#[test]
-fn limits_at_the_ends_of_their_ranges() -> Result<(), Fail> {
-    let mut job = Job::new();
-    check_eq((job.steps(), job.latency()), (1, 0)).note("a new job")?;
+    check(holds(&job, 0, 0, 1, 0)).note("a refusal leaves the job as it was")?;
     answered(
         &mut job,
-        &[(limits(0, 0), 2), (limits(65, 0), 2), (limits(1, 65), 2)],
+        &[(kind(8, 8, 64), 0), (kind(1, 1, 0), 0), (limits(64, 64), 0)],
     )?;
-    check_eq((job.steps(), job.latency()), (1, 0)).note("refused limits are not set")?;
-    answered(&mut job, &[(limits(64, 64), 0)])?;
-    check_eq((job.steps(), job.latency()), (64, 64))
+    check(holds(&job, 2, 0, 64, 64))
 }
 
 #[test]
 fn the_house_library() -> Result<(), Fail> {
-    let units = [
-        (1, 1, 11, 32, 8),
-        (1, 1, 12, 48, 12),
-        (2, 2, 13, 260, 70),
-        (2, 1, 14, 310, 90),
-    ];
     let mut job = Job::new();
-    answered(&mut job, &[(library(0, 1), 4), (library(5, 1), 4)])?;
     answered(
         &mut job,
         &[
+            (library(0, 1), 4),
+            (library(5, 1), 4),
             (library(1, 11), 0),
             (library(2, 12), 0),
             (library(3, 13), 0),
             (library(4, 14), 0),
         ],
     )?;
-    check_eq(job.kinds().len(), 4)?;
-    for (kind, unit) in job.kinds().iter().zip(units) {
-        check_eq(
-            (kind.duration, kind.busy, kind.cap, kind.area, kind.draw),
-            unit,
-        )?;
-    }
-    Ok(())
+    check(has_kind(&job, 0, figures(1, 1, 11, 32, 8)))?;
+    check(has_kind(&job, 1, figures(1, 1, 12, 48, 12)))?;
+    check(has_kind(&job, 2, figures(2, 2, 13, 260, 70)))?;
+    check(has_kind(&job, 3, figures(2, 1, 14, 310, 90)))
 }
 
 #[test]
@@ -114,7 +95,7 @@ fn busy_time_and_latency() -> Result<(), Fail> {
             (limits(6, 1), 13),
         ],
     )?;
-    check_eq((job.kinds().len(), job.latency()), (2, 2))
+    check(holds(&job, 2, 0, 6, 2))
 }
 
 #[test]
@@ -140,7 +121,7 @@ fn two_faults_in_one_call() -> Result<(), Fail> {
             (library(3, 1), 9),
         ],
     )?;
-    check_eq(job.kinds().len(), 8)?;
+    check(job.kinds().len() == 8)?;
     let mut slow = Job::new();
     answered(&mut slow, &[(kind(2, 2, 1), 0), (limits(0, 1), 2)])
 }
@@ -159,66 +140,23 @@ fn faults_in_an_operation() -> Result<(), Fail> {
             (row(1, 0, 1), 12),
         ],
     )?;
-    check_eq(job.operations().len(), 0).note("a refusal leaves no row behind")?;
+    check(job.operations().len() == 0).note("a refusal leaves no row behind")?;
     for n in 0..64 {
         answered(&mut job, &[(row(1, n, n), 0)])?;
     }
     answered(&mut job, &[(row(1, 0, 0), 10), (row(0, 99, 0), 10)])?;
-    check_eq(job.operations().len(), 64)
+    check(job.operations().len() == 64)
 }
 
 #[test]
 fn the_single_calls() -> Result<(), Fail> {
     let mut job = Job::new();
-    let figures = Figures {
-        duration: 2,
-        busy: 1,
-        cap: 3,
-        area: 4,
-        draw: 5,
-    };
-    check(job.add_kind(figures).is_ok())?;
+    check(job.add_kind(figures(2, 1, 3, 4, 5)).is_ok())?;
     check(job.add_library_kind(3, 7).is_ok())?;
     check(job.set_limits(9, 6).is_ok())?;
-    let operation = Operation {
-        kind: 2,
-        left: 0,
-        right: 0,
-    };
-    check(job.add_operation(operation).is_ok())?;
-    check_eq(
-        (
-            job.kinds().len(),
-            job.operations().len(),
-            job.steps(),
-            job.latency(),
-        ),
-        (2, 1, 9, 6),
-    )?;
+    check(job.add_operation(operation(2, 0, 0)).is_ok())?;
+    check(holds(&job, 2, 1, 9, 6))?;
+    check(has_kind(&job, 0, figures(2, 1, 3, 4, 5)))?;
+    check(has_operation(&job, 0, operation(2, 0, 0)))?;
     check_eq(job.frame(1).ok(), Some((1, 8)))
-}
-
-#[test]
-fn the_numbers_of_refusals() -> Result<(), Fail> {
-    let all = [
-        Refusal::FigureOutOfRange,
-        Refusal::LimitOutOfRange,
-        Refusal::AllowanceOutOfRange,
-        Refusal::UnknownLibraryUnit,
-        Refusal::NotAJobFile,
-        Refusal::TornRecord,
-        Refusal::UnknownRecord,
-        Refusal::ShortBuffer,
-        Refusal::TooManyKinds,
-        Refusal::TooManyOperations,
-        Refusal::UnknownKind,
-        Refusal::UnknownOperand,
-        Refusal::BusyBeyondLatency,
-        Refusal::NothingToSearch,
-        Refusal::UnknownOperation,
-    ];
-    for (i, refusal) in all.iter().enumerate() {
-        check_eq(refusal.number() as usize, i + 1)?;
-    }
-    Ok(())
 }

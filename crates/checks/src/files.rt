@@ -1,4 +1,9 @@
 //! Job files: what is loaded, what is refused and where.
+use crate::held::figures;
+use crate::held::has_kind;
+use crate::held::has_operation;
+use crate::held::holds;
+use crate::held::operation;
 use job::Job;
 use std::alloc::AllocError;
 use std::alloc::Global;
@@ -198,37 +203,11 @@ fn the_fields_of_each_record() -> Result<(), Fail> {
         1,
     ];
     check(job.load(&file).is_ok())?;
-    let [first, second] = job.kinds() else {
-        return Err(Fail::new("two kinds"));
-    };
-    check_eq(
-        (
-            first.duration,
-            first.busy,
-            first.cap,
-            first.area,
-            first.draw,
-        ),
-        (3, 2, 5, 258, 772),
-    )?;
-    check_eq(
-        (
-            second.duration,
-            second.busy,
-            second.cap,
-            second.area,
-            second.draw,
-        ),
-        (1, 1, 9, 48, 12),
-    )?;
-    check_eq((job.steps(), job.latency()), (9, 7))?;
-    let [a, b] = job.operations() else {
-        return Err(Fail::new("two operations"));
-    };
-    check_eq(
-        (a.kind, a.left, a.right, b.kind, b.left, b.right),
-        (1, 0, 0, 2, 0, 1),
-    )
+    check(holds(&job, 2, 2, 9, 7))?;
+    check(has_kind(&job, 0, figures(3, 2, 5, 258, 772)))?;
+    check(has_kind(&job, 1, figures(1, 1, 9, 48, 12)))?;
+    check(has_operation(&job, 0, operation(1, 0, 0)))?;
+    check(has_operation(&job, 1, operation(2, 0, 1)))
 }
 
 #[test]
@@ -239,10 +218,8 @@ fn loaded_over_another_job() -> Result<(), Fail> {
             .is_ok(),
     )?;
     check(job.load(&[1, 0, 3, 3, 9, 0, 0, 3, 3, 0, 0]).is_err()).note("no steps, at offset 6")?;
-    check_eq((job.kinds().len(), job.operations().len()), (1, 1)).note("the old rows stay")?;
-    check_eq((job.steps(), job.latency()), (6, 4)).note("the old limits stay")?;
+    check(holds(&job, 1, 1, 6, 4)).note("the old job stays")?;
     check_eq(job.frame(1).ok(), Some((1, 6))).note("the old frame stays")?;
     check(job.load(&[1, 0, 3, 3, 9, 0]).is_ok())?;
-    check_eq((job.kinds().len(), job.operations().len()), (0, 0)).note("the old rows are gone")?;
-    check_eq((job.steps(), job.latency()), (9, 0)).note("the new limits hold")
+    check(holds(&job, 0, 0, 9, 0)).note("the old job is gone")
 }

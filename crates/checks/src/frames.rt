@@ -1,27 +1,17 @@
 //! Frames: earliest and latest starts.
-use job::Figures;
+use crate::held::figures;
+use crate::held::operation;
 use job::Job;
-use job::Operation;
 use job::RefusalDebug;
 use std::test::*;
 
 // A job of one kind with a duration and a busy time, and operations of it by their operands.
 fn job_of(duration: u8, busy: u8, steps: u8, operands: &[(u8, u8)]) -> Result<Job, Fail> {
     let mut job = Job::new();
-    job.add_kind(Figures {
-        duration,
-        busy,
-        cap: 4,
-        area: 10,
-        draw: 5,
-    })?;
+    job.add_kind(figures(duration, busy, 4, 10, 5))?;
     job.set_limits(steps, 0)?;
     for (left, right) in operands {
-        job.add_operation(Operation {
-            kind: 1,
-            left: *left,
-            right: *right,
-        })?;
+        job.add_operation(operation(1, *left, *right))?;
     }
     Ok(job)
 }
@@ -38,21 +28,13 @@ fn framed(job: &Job, frames: &[(i16, i16)]) -> Result<(), Fail> {
 }
 
 #[test]
-fn a_chain_too_long_for_its_steps() -> Result<(), Fail> {
-    framed(&job_of(2, 2, 1, &[(0, 0), (1, 0)])?, &[(1, -2), (3, 0)])
-}
-
-#[test]
-fn the_duration_counts_and_not_the_busy_time() -> Result<(), Fail> {
-    framed(&job_of(3, 1, 9, &[(0, 0), (0, 1)])?, &[(1, 4), (4, 7)])
-}
-
-#[test]
-fn the_nearest_user_counts() -> Result<(), Fail> {
-    framed(
-        &job_of(2, 2, 10, &[(0, 0), (1, 0), (2, 1), (0, 1)])?,
-        &[(1, 5), (3, 7), (5, 9), (3, 9)],
-    )
+fn small_jobs() -> Result<(), Fail> {
+    let short_of_steps = job_of(2, 2, 1, &[(0, 0), (1, 0)])?;
+    framed(&short_of_steps, &[(1, -2), (3, 0)])?;
+    let busy_below_duration = job_of(3, 1, 9, &[(0, 0), (0, 1)])?;
+    framed(&busy_below_duration, &[(1, 4), (4, 7)])?;
+    let several_users = job_of(2, 2, 10, &[(0, 0), (1, 0), (2, 1), (0, 1)])?;
+    framed(&several_users, &[(1, 5), (3, 7), (5, 9), (3, 9)])
 }
 
 #[test]
@@ -69,11 +51,7 @@ fn frames_follow_the_limits() -> Result<(), Fail> {
 fn a_long_chain() -> Result<(), Fail> {
     let mut job = job_of(8, 8, 64, &[])?;
     for n in 0..64 {
-        job.add_operation(Operation {
-            kind: 1,
-            left: n,
-            right: n,
-        })?;
+        job.add_operation(operation(1, n, n))?;
     }
     check_eq(job.frame(1).ok(), Some((1, -447)))?;
     check_eq(job.frame(64).ok(), Some((505, 57)))

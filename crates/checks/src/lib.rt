@@ -5,3 +5,5 @@ mod calls;
 mod files;
 #[cfg(test)]
 mod frames;
+#[cfg(test)]
+mod held;

@@ -8,7 +8,6 @@ pub use rules::kind::Kind;
 pub use rules::operation::Operation;
 pub use rules::refusal::FileRefusal;
 pub use rules::refusal::FileRefusalDebug;
-pub use rules::refusal::FileRefusalPartialEq;
 pub use rules::refusal::Refusal;
 pub use rules::refusal::RefusalDebug;
 pub use rules::refusal::RefusalPartialEq;

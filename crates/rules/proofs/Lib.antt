@@ -6,7 +6,6 @@ pub mod Figures
 pub mod Changing
 pub mod Outcomes
 pub mod Reading
-pub mod Records
 pub mod Encoded
 pub mod Making
 pub mod Durations

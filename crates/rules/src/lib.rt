@@ -3,5 +3,4 @@ pub mod edit;
 pub mod kind;
 pub mod library;
 pub mod operation;
-pub mod record;
 pub mod refusal;

@@ -63,7 +63,7 @@ impl Refusal {
 }
 
 /// A refused job file: why, and the offset of the length of the record at fault, 0 where the file as a whole is.
-#[derive(Clone, Copy, PartialEq, Eq, Debug)]
+#[derive(Clone, Copy, Debug)]
 pub struct FileRefusal {
     pub reason: Refusal,
     pub offset: usize,

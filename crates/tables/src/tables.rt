@@ -25,5 +25,4 @@ pub struct Tables {
 }
 
 mod edits;
-mod file;
 mod frames;

@@ -12,6 +12,7 @@ ghost use Rattle.tables.specs.Held.{tables-job};
 ghost use Rattle.rules.specs.Jobs.{fresh};
 ghost use Rattle.rules.specs.Refusals.{told, told-file};
 use super::Job;
+use jobfile::read::read_tables;
 use rules::edit::Edit;
 use rules::kind::Figures;
 use rules::kind::Kind;
@@ -90,7 +91,7 @@ impl Job {
         ensures read { λ _. ⌜ Loads (now (file .entry)) (loaded (now (file .entry))) ⌝ }
         ensures stands_for { λ _. ⌜ Files-stand-for-edits ⌝ }
     {
-        let tables = Tables::read(file)?;
+        let tables = read_tables(file)?;
         *self = Job::of(tables);
         Ok(())
     }

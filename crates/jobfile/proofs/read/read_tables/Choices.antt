@@ -2,8 +2,8 @@ use Prim.Native.Nat.{_-_, _<_}
 use mathlib.Core.Path.{_≡_}
 use lib.ListN.{length}
 use Rattle.rules.specs.Files.{with-records, loaded}
 use Rattle.tables.specs.Held.{tables-job}
-use Rattle.tables.proofs.tables.Tables.read.Given as given
+use Rattle.jobfile.proofs.read.read_tables.Given as given
 
 -- what is left of the file makes of the tables what the whole file stands for
 abbrev pub Inv-loop-rest : given.InvT-loop-rest

@@ -1,12 +1,12 @@
 //! The records of a job file: a length in two bytes, a tag and fields.
 ghost use mathlib.Core.Path.{_≡_};
 ghost use Rattle.rules.specs.Files.{edit-of, Split};
-use crate::edit::Edit;
-use crate::kind::Figures;
-use crate::operation::Operation;
+use rules::edit::Edit;
+use rules::kind::Figures;
+use rules::operation::Operation;
 
-/// The edit that a record stands for, given without its length: a tag and its fields, with nothing left over.
-pub fn edit_of(body: &[u8]) -> Option<Edit>
+// The edit that a record stands for, given without its length: a tag and its fields, with nothing left over.
+pub(crate) fn edit_of(body: &[u8]) -> Option<Edit>
     ensures { λ r. ⌜ r ≡ edit-of (now (body .entry)) ⌝ }
 {
     match body {
@@ -43,8 +43,8 @@ pub fn edit_of(body: &[u8]) -> Option<Edit>
     }
 }
 
-/// The body of the record that the bytes begin with, and what follows it; nothing where the bytes end within the record.
-pub fn split_record(bytes: &[u8]) -> Option<(&[u8], &[u8])>
+// The body of the record that the bytes begin with, and what follows it; nothing where the bytes end within the record.
+pub(crate) fn split_record(bytes: &[u8]) -> Option<(&[u8], &[u8])>
     ensures { λ r. ⌜ Split (now (bytes .entry)) r ⌝ }
 {
     let [high, low, rest @ ..] = bytes else {

@@ -2,8 +2,8 @@ use Prim.Native.Nat.{_≤_}
 use native.Mathlib.Omega.{arith}
 use lib.ListN.{length}
 use borrow.Author.Needs.{needs}
-use Rattle.rules.proofs.Records.{split-there}
-use Rattle.rules.proofs.record.split_record.Needs as need
+use Rattle.jobfile.proofs.Records.{split-there}
+use Rattle.jobfile.proofs.record.split_record.Needs as need
 
 pub returns : need.returns
 returns c =
