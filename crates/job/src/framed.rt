@@ -1,9 +1,10 @@
 //! A job: its tables, and the frame of each operation.
-ghost use Prim.Native.Nat.{_≤_};
 ghost use mathlib.Core.Path.{_≡_};
-ghost use lib.ListN.{length, take};
+ghost use lib.IntN.{pos};
 ghost use Rattle.rules.specs.Frames.{earliests, latests};
-ghost use Rattle.tables.specs.Tables.{filled, job-from};
+ghost use Rattle.tables.specs.Held.{tables-job};
+ghost use Rattle.tables.specs.Tables.{padded};
+use tables::tables::MOST_OPERATIONS;
 use tables::tables::Tables;
 
 /// What is to be planned: kinds of unit, operations, a number of steps and a latency.
@@ -14,12 +15,10 @@ use tables::tables::Tables;
 pub struct Job {
     tables: Tables,
     // the earliest and the latest start of each operation
-    earliest: [u16; 64],
-    latest: [i16; 64],
-    ghost whole_earliest: { length earliest ≡ 64 },
-    ghost whole_latest: { length latest ≡ 64 },
-    ghost from_earliest: { take (length (filled (tables .operations))) earliest ≡ earliests (job-from (tables .kinds) (tables .operations) (tables .steps) (tables .latency)) },
-    ghost to_latest: { take (length (filled (tables .operations))) latest ≡ latests (job-from (tables .kinds) (tables .operations) (tables .steps) (tables .latency)) },
+    earliest: [u16; MOST_OPERATIONS],
+    latest: [i16; MOST_OPERATIONS],
+    ghost from_earliest: { earliest ≡ padded 64 0 (earliests (tables-job tables)) },
+    ghost to_latest: { latest ≡ padded 64 (pos 0) (latests (tables-job tables)) },
 }
 
 mod calls;

@@ -12,7 +12,8 @@ use Rattle.std.specs.declared.result.Result.{Result}
 use Rattle.std.specs.declared.result.Result.the-variants.{Ok, Err}
 use Rattle.std.proofs.shelf.Lists.{length-drop, take-all}
 use Rattle.std.proofs.shelf.Tests.{cond-true, cond-false, lt-ltb, le-ltb, eq-eqb, and-from}
-use Rattle.rules.specs.Files.{word, with-record, with-records, loaded, Split}
+use Rattle.rules.specs.Files.{word, with-record, with-records, loaded}
+use Rattle.jobfile.specs.Records.{Split}
 use Rattle.rules.specs.Jobs.{Job, fresh}
 use Rattle.rules.proofs.Reading.{after-record}
 

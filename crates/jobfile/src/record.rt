@@ -1,6 +1,7 @@
 //! The records of a job file: a length in two bytes, a tag and fields.
 ghost use mathlib.Core.Path.{_≡_};
-ghost use Rattle.rules.specs.Files.{edit-of, Split};
+ghost use Rattle.rules.specs.Files.{edit-of};
+ghost use Rattle.jobfile.specs.Records.{Split};
 use rules::edit::Edit;
 use rules::kind::Figures;
 use rules::operation::Operation;

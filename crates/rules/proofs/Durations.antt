@@ -10,7 +10,7 @@ use Rattle.std.specs.declared.option.Option.the-variants.{Some, None}
 use Rattle.rules.specs.declared.kind.Kind.{Kind}
 use Rattle.rules.specs.declared.operation.Operation.{Operation}
 use Rattle.rules.specs.Frames.{duration-at}
-use Rattle.rules.specs.Jobs.{Job, numbered, figure, durationOf}
+use Rattle.rules.specs.Jobs.{Job, numbered, figure, duration-of}
 use Rattle.std.proofs.shelf.Maps.{nth-getD, nth-past}
 
 -- what the check takes for an element past a list's end
@@ -31,7 +31,7 @@ pub figure-none : (f : Kind → ℕ) (ks : List Kind) (k : ℕ) → (k ≡ 0) �
 figure-none f ks zero none = refl
 figure-none f ks (suc i) none = ap (figured f) (sym (nth-past ks i (omega arith)))
 
-pub duration-short : (j : Job) (o : Operation) → durationOf j o ≤ 8
+pub duration-short : (j : Job) (o : Operation) → duration-of j o ≤ 8
 duration-short j o = go (numbered (j .kinds) (o .kind))
   where
     go : (kind : Option Kind) → figured (λ k. k .duration) kind ≤ 8
@@ -41,6 +41,6 @@ duration-short j o = go (numbered (j .kinds) (o .kind))
 pub duration-at-short : (j : Job) (n : ℕ) → duration-at j n ≤ 8
 duration-at-short j n = go (numbered (j .operations) n)
   where
-    go : (row : Option Operation) → elim row [ Some o ↦ durationOf j o | None ↦ 0 ] ≤ 8
+    go : (row : Option Operation) → elim row [ Some o ↦ duration-of j o | None ↦ 0 ] ≤ 8
     go (Some o) = duration-short j o
     go None = omega arith

@@ -11,7 +11,7 @@ use Rattle.std.proofs.shelf.Lists.{getD-push}
 use Rattle.std.proofs.shelf.Tests.{cases-lt}
 use Rattle.std.proofs.shelf.Ways.{tells}
 use Rattle.rules.specs.declared.operation.Operation.{Operation}
-use Rattle.rules.specs.Jobs.{Job, Valid, durationOf}
+use Rattle.rules.specs.Jobs.{Job, Valid, duration-of}
 use Rattle.rules.specs.Frames.{Uses, readable, earliest, earliests-after, earliests, earliest-start, duration-at}
 use Rattle.rules.proofs.Numbered.{none-some, some-same, After, after-none, after-more, after-here}
 use Rattle.rules.proofs.Rows.{value-at, duration-held}
@@ -60,7 +60,7 @@ module _ (j : Job) (valid : Valid j) where
   -- an operation's end, from the ends of those before it
   end-here : (n : ℕ) (ready : List ℕ) (o : Operation) → length ready ≡ n → Ready ready → nth (j .operations) n ≡ Some o
       → earliest-start j (suc n) ≡ earliest ready o
-      → (1 ≤ earliest ready o + durationOf j o) × (earliest ready o + durationOf j o ≡ end (suc n))
+      → (1 ≤ earliest ready o + duration-of j o) × (earliest ready o + duration-of j o ≡ end (suc n))
   end-here n ready o long told held start =
       let before = valid .earlier-operands (suc n) o held in
       let some = readable-positive ready told (o .left) (omega arith) in
@@ -80,8 +80,8 @@ module _ (j : Job) (valid : Valid j) where
       }
   worked-from n ready (r ∷ os) long told a b (suc i) m o at e =
       let more = end-here n ready r long told (after-here a) (here n ready r os b) in
-      worked-from (suc n) (ready ++ ((earliest ready r + durationOf j r) ∷ [])) os
-      (simp length-append (omega arith)) (ready-more n ready (earliest ready r + durationOf j r) long told (more .0) (more .1))
+      worked-from (suc n) (ready ++ ((earliest ready r + duration-of j r) ∷ [])) os
+      (simp length-append (omega arith)) (ready-more n ready (earliest ready r + duration-of j r) long told (more .0) (more .1))
       (after-more a) (after-more b) i m o (omega arith) e
 
   worked-out : (n : ℕ) (o : Operation) → nth (j .operations) n ≡ Some o → Worked-out n o

@@ -13,7 +13,7 @@ use Rattle.std.specs.shelf.Maps.{nth}
 use Rattle.std.proofs.shelf.Signed.{ints}
 use Rattle.std.proofs.shelf.Ways.{tells}
 use Rattle.rules.specs.declared.operation.Operation.{Operation}
-use Rattle.rules.specs.Jobs.{Job, Valid, numbered, durationOf}
+use Rattle.rules.specs.Jobs.{Job, Valid, numbered, duration-of}
 use Rattle.rules.specs.Frames.{Uses, least, uses, before-users, last-start, latests-from, latests, latest-start, duration-at}
 use Rattle.rules.proofs.Numbered.{none-some, some-same, nth-within, within-nth, After, after-none, after-more, after-here, after-at}
 use Rattle.rules.proofs.Rows.{value-at, duration-held}
@@ -96,7 +96,7 @@ module _ (j : Job) where
     later : List Operation
     after : After (suc n) (j .operations) later
     starts : After (suc n) (latests j) (latests-from j (suc (suc n)) later)
-    start : latest-start j (suc n) ≡ before-users (suc n) (durationOf j o) (last-start j (durationOf j o)) later (latests-from j (suc (suc n)) later)
+    start : latest-start j (suc n) ≡ before-users (suc n) (duration-of j o) (last-start j (duration-of j o)) later (latests-from j (suc (suc n)) later)
 
   worked-here : (n : ℕ) (o : Operation) (os : List Operation) → After n (j .operations) (o ∷ os)
       → After n (latests j) (latests-from j (suc n) (o ∷ os)) → Worked-out n o
@@ -120,7 +120,7 @@ module _ (j : Job) where
     out : Worked-out n o
     out = worked-out n o held
 
-    takes : duration-at j (suc n) ≡ durationOf j o
+    takes : duration-at j (suc n) ≡ duration-of j o
     takes = duration-held j (suc n) o held
 
     -- the latest starts of the later operations
@@ -129,7 +129,7 @@ module _ (j : Job) where
 
     pub by-the-end : latest-start j (suc n) ≤ℤ last-start j (duration-at j (suc n))
     by-the-end =
-        rw (takes, out .start) (before-users-le (suc n) (durationOf j o) (last-start j (durationOf j o)) (out .later) later-starts)
+        rw (takes, out .start) (before-users-le (suc n) (duration-of j o) (last-start j (duration-of j o)) (out .later) later-starts)
 
     -- a user at place n + 1 + i
     ahead-at : (i : ℕ) (q : Operation) → nth (out .later) i ≡ Some q → uses (suc n) q ≡ true
@@ -139,7 +139,7 @@ module _ (j : Job) where
         let l = nth-within later-starts i at in
         let its : latest-start j (suc (suc n + i)) ≡ l .0 = value-at (latests j) (suc n + i) (l .0) (pos 0) (after-at i (l .0) (out .starts) (l .1)) in
         rw (takes, out .start, its)
-        (before-users-user (suc n) (durationOf j o) (last-start j (durationOf j o)) (out .later) later-starts i q (l .0) e (l .1) h)
+        (before-users-user (suc n) (duration-of j o) (last-start j (duration-of j o)) (out .later) later-starts i q (l .0) e (l .1) h)
 
     pub ahead-of-users : Valid j → (q : ℕ) → Uses j q (suc n) → latest-start j (suc n) ≤ℤ (latest-start j q -ℤ pos (duration-at j (suc n)))
     ahead-of-users valid q u =
@@ -156,7 +156,7 @@ module _ (j : Job) where
         (latest-start j (suc n) ≡ last-start j (duration-at j (suc n)))
         ⊎ ((q : ℕ) × Uses j q (suc n) × (latest-start j (suc n) ≡ latest-start j q -ℤ pos (duration-at j (suc n))))
 
-    met-by : Left-by (suc n) (durationOf j o) (out .later) later-starts (latest-start j (suc n)) → Met
+    met-by : Left-by (suc n) (duration-of j o) (out .later) later-starts (latest-start j (suc n)) → Met
     met-by w =
         let its : latest-start j (suc (suc n + w .place)) ≡ w .start =
         value-at (latests j) (suc n + w .place) (w .start) (pos 0) (after-at (w .place) (w .start) (out .starts) (w .start-held)) in
@@ -169,4 +169,4 @@ module _ (j : Job) where
     pub latest-met : Met
     latest-met =
         ⊎-elim (λ e. inl (rw takes (out .start ∙ e))) (λ w. met-by (rw (out .start) w))
-        (before-users-met (suc n) (durationOf j o) (last-start j (durationOf j o)) (out .later) later-starts)
+        (before-users-met (suc n) (duration-of j o) (last-start j (duration-of j o)) (out .later) later-starts)

@@ -17,7 +17,7 @@ use Rattle.rules.specs.declared.operation.Operation.{Operation}
 use Rattle.rules.specs.Jobs.{Job, Valid, fresh, numbered}
 use Rattle.rules.specs.Edits.{restarts, all-restart, plus-kind, plus-operation, limited, with-kind, with-operation, with-limits, edited}
 use Rattle.rules.specs.Files.{figures, loaded}
-use Rattle.rules.specs.Changes.{Change, edit, load, unless-refused, changed, after, Made-are-valid}
+use Rattle.rules.specs.Changes.{Change, edit, load, unless-refused, changed, after, Ranges-are-exact}
 use Rattle.rules.proofs.Numbered.{none-some}
 use Rattle.rules.proofs.Figures.{kind-of-kind}
 use Rattle.rules.proofs.Outcomes.{kind-taken, limits-taken, operation-taken, was-accepted}
@@ -156,5 +156,5 @@ valid-made j valid =
       earlier = λ n o e. let old = valid .earlier-operands n o e in (omega arith, omega arith);
     })
 
-pub made-are-valid : Made-are-valid
-made-are-valid = record { within = after-valid fresh fresh-valid; all-made = λ j valid. (changes-to j, valid-made j valid) }
+pub ranges-are-exact : Ranges-are-exact
+ranges-are-exact = record { within = after-valid fresh fresh-valid; all-made = λ j valid. (changes-to j, valid-made j valid) }

@@ -29,6 +29,6 @@ after j [] = j
 after j (c ∷ cs) = after (changed j c) cs
 
 -- The jobs that calls make are exactly those within the ranges.
-pub record Made-are-valid : Type 0 where
+pub record Ranges-are-exact : Type 0 where
   pub within : (cs : List Change) → Valid (after fresh cs)
   pub all-made : (j : Job) → Valid j → (cs : List Change) × (after fresh cs ≡ j)

@@ -6,7 +6,6 @@ use mathlib.Core.List.{List, [], _∷_, _++_}
 use mathlib.Core.Bool.{cond, _&&_}
 use lib.ListN.{length, take, drop, getD}
 use lib.Dec.{eqb, ltb}
-use denote.Ref.{RefT, now}
 use Rattle.std.specs.declared.result.Result.{Result}
 use Rattle.std.specs.declared.result.Result.the-variants.{Ok, Err}
 use Rattle.std.specs.declared.option.Option.{Option}
@@ -69,14 +68,6 @@ loaded [] = Err (number NotAJobFile, 0)
 loaded (version ∷ rest) =
     cond (eqb version 1 && ltb (length rest) 4096) (with-records (length rest) fresh 1 rest) (Err (number NotAJobFile, 0))
 
--- the bytes begin with a record of this body, and the others follow it; or there is no whole record
-abbrev pub Split : List ℕ → Option (RefT (List ℕ) × RefT (List ℕ)) → Type 0
-Split [] r = r ≡ None
-Split (high ∷ []) r = r ≡ None
-Split (high ∷ low ∷ rest) None = length rest < word high low
-Split (high ∷ low ∷ rest) (Some s) =
-    (word high low ≤ length rest) × (now (s .0) ≡ take (word high low) rest) × (now (s .1) ≡ drop (word high low) rest)
-
 -- ---- what a file says
 
 -- a record's tag and fields stand for an edit
@@ -94,11 +85,11 @@ pub data Reads : Job → ℕ → List ℕ → Result Job (ℕ × ℕ) → Type 0
   no-length : {j : Job} {o high : ℕ} → Reads j o (high ∷ []) (Err (6, o))
   cut-short : {j : Job} {o high low : ℕ} {rest : List ℕ} → length rest < word high low → Reads j o (high ∷ low ∷ rest) (Err (6, o))
   unknown : {j : Job} {o high low : ℕ} (body rest : List ℕ) → length body ≡ word high low → ((e : Edit) → Stands-for body e → ⊥)
-      → Reads j o (high ∷ (low ∷ (body ++ rest))) (Err (7, o))
+      → Reads j o (high ∷ low ∷ (body ++ rest)) (Err (7, o))
   refused : {j : Job} {o high low why : ℕ} {e : Edit} (body rest : List ℕ) → length body ≡ word high low → Stands-for body e → edited j e ≡ Err why
-      → Reads j o (high ∷ (low ∷ (body ++ rest))) (Err (why, o))
+      → Reads j o (high ∷ low ∷ (body ++ rest)) (Err (why, o))
   accepted : {j k : Job} {o high low : ℕ} {e : Edit} {r : Result Job (ℕ × ℕ)} (body rest : List ℕ) → length body ≡ word high low → Stands-for body e
-      → edited j e ≡ Ok k → Reads k (o + 2 + length body) rest r → Reads j o (high ∷ (low ∷ (body ++ rest))) r
+      → edited j e ≡ Ok k → Reads k (o + 2 + length body) rest r → Reads j o (high ∷ low ∷ (body ++ rest)) r
 
 -- what a file comes to: a new job with its records
 pub data Loads : List ℕ → Result Job (ℕ × ℕ) → Type 0 where

@@ -14,7 +14,7 @@ use Rattle.std.specs.declared.result.Result.{Result}
 use Rattle.std.specs.declared.result.Result.the-variants.{Ok, Err}
 use Rattle.rules.specs.declared.operation.Operation.{Operation}
 use Rattle.rules.specs.declared.refusal.Refusal.the-variants.{UnknownOperation}
-use Rattle.rules.specs.Jobs.{Job, numbered, durationOf}
+use Rattle.rules.specs.Jobs.{Job, numbered, duration-of}
 use Rattle.rules.specs.Refusals.{where-holds}
 
 -- ---- how frames are worked out
@@ -31,7 +31,7 @@ earliest ready o = max (readable ready (o .left)) (readable ready (o .right))
 abbrev pub earliests-after : Job → List ℕ → List Operation → List ℕ
 earliests-after j ready [] = []
 earliests-after j ready (o ∷ os) =
-    earliest ready o ∷ earliests-after j (ready ++ ((earliest ready o + durationOf j o) ∷ [])) os
+    earliest ready o ∷ earliests-after j (ready ++ ((earliest ready o + duration-of j o) ∷ [])) os
 
 -- the earliest start of each operation
 abbrev pub earliests : Job → List ℕ
@@ -59,7 +59,7 @@ abbrev pub latests-from : Job → ℕ → List Operation → List ℤ
 latests-from j n [] = []
 latests-from j n (o ∷ os) =
     let later : List ℤ = latests-from j (suc n) os in
-    before-users n (durationOf j o) (last-start j (durationOf j o)) os later ∷ later
+    before-users n (duration-of j o) (last-start j (duration-of j o)) os later ∷ later
 
 -- the latest start of each operation
 abbrev pub latests : Job → List ℤ
@@ -84,7 +84,7 @@ frame-of j n = where-holds (holds j n) UnknownOperation (λ _. Ok (pos (earliest
 
 -- the duration of operation n, 0 if it is not held
 abbrev pub duration-at : Job → ℕ → ℕ
-duration-at j n = elim (numbered (j .operations) n) [ Some o ↦ durationOf j o | None ↦ 0 ]
+duration-at j n = elim (numbered (j .operations) n) [ Some o ↦ duration-of j o | None ↦ 0 ]
 
 -- operation `user` has operation `used` as an operand
 pub record Uses (j : Job) (user used : ℕ) : Type 0 where

@@ -28,8 +28,8 @@ numbered xs (suc i) = nth xs i
 abbrev pub figure : (Kind → ℕ) → List Kind → ℕ → ℕ
 figure f ks k = elim (numbered ks k) [ Some kind ↦ f kind | None ↦ 0 ]
 
-abbrev pub durationOf : Job → Operation → ℕ
-durationOf j o = figure (λ k. k .duration) (j .kinds) (o .kind)
+abbrev pub duration-of : Job → Operation → ℕ
+duration-of j o = figure (λ k. k .duration) (j .kinds) (o .kind)
 
 -- The ranges that every job keeps; each kind keeps those of its figures by its type.
 pub record Valid (j : Job) : Type 0 where

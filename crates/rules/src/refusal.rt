@@ -5,35 +5,35 @@ ghost use Rattle.rules.specs.Refusals.{number};
 /// The reason of a refusal. Each is known to users by its number.
 #[derive(Clone, Copy, PartialEq, Eq, Debug)]
 pub enum Refusal {
-    /// A duration, busy time or cap outside its range.
+    /// 1: a duration, busy time or cap outside its range.
     FigureOutOfRange,
-    /// Steps or latency outside their range.
+    /// 2: steps or latency outside their range.
     LimitOutOfRange,
-    /// An allowance of no trials, or of more than 65,535.
+    /// 3: an allowance of no trials, or of more than 65,535.
     AllowanceOutOfRange,
-    /// A library number that is not held.
+    /// 4: a library number that is not held.
     UnknownLibraryUnit,
-    /// A file that is empty, too long or of another version.
+    /// 5: a file that is empty, too long or of another version.
     NotAJobFile,
-    /// A record that the file ends within.
+    /// 6: a record that the file ends within.
     TornRecord,
-    /// An unknown tag, or a length that is not its tag's.
+    /// 7: an unknown tag, or a length that is not its tag's.
     UnknownRecord,
-    /// A buffer too short for the printed plan.
+    /// 8: a buffer too short for the printed plan.
     ShortBuffer,
-    /// A ninth kind.
+    /// 9: a ninth kind.
     TooManyKinds,
-    /// A 65th operation.
+    /// 10: a 65th operation.
     TooManyOperations,
-    /// An operation of a kind that is not held.
+    /// 11: an operation of a kind that is not held.
     UnknownKind,
-    /// An operand above the operations held.
+    /// 12: an operand above the operations held.
     UnknownOperand,
-    /// A busy time above a latency that is not 0.
+    /// 13: a busy time above a latency that is not 0.
     BusyBeyondLatency,
-    /// A search with no operations.
+    /// 14: a search with no operations.
     NothingToSearch,
-    /// A question about an operation that is not held.
+    /// 15: a question about an operation that is not held.
     UnknownOperation,
 }
 

@@ -9,9 +9,11 @@ use Rattle.std.proofs.shelf.Lists.{append-nil, append-assoc, drop-more, drop-al
 use Rattle.std.proofs.shelf.Tests.{cases-lt}
 use Rattle.std.specs.declared.option.Option.the-variants.{Some}
 use Rattle.rules.specs.declared.operation.Operation.{Operation}
-use Rattle.rules.specs.Jobs.{Job, Valid, numbered, durationOf}
+use Rattle.rules.specs.Jobs.{Job, Valid, numbered, duration-of}
 use Rattle.rules.specs.Frames.{readable, earliest, earliests-after, earliests}
 use Rattle.std.proofs.shelf.Maps.{nth-getD}
+use Rattle.tables.specs.Tables.{padded}
+use Rattle.tables.proofs.Padded.{Spare, spare-more, padded-from}
 
 -- The first i starts are told, and when those operations can be read: `ready` has an outside input at its row 0.
 pub record Told (j : Job) (starts ready : List ℕ) (i : ℕ) : Type 0 where
@@ -19,6 +21,7 @@ pub record Told (j : Job) (starts ready : List ℕ) (i : ℕ) : Type 0 where
   pub ready-whole : length ready ≡ 65
   pub outside : getD ready 0 0 ≡ 1
   pub early : (k : ℕ) → k ≤ i → getD ready k 0 ≤ 1 + 8 * k
+  pub spare : Spare 0 starts i
   pub left-over : take i starts ++ earliests-after j (take i (drop 1 ready)) (drop i (j .operations)) ≡ earliests j
 
 -- the operands of row i, counted from 0, are outside or of rows before it
@@ -73,13 +76,13 @@ module _ {j : Job} {starts ready : List ℕ} {i : ℕ} (told : Told j starts rea
             let e : getD (set ready (i + 1) (start + d)) k 0 ≡ start + d = ap (λ m. getD (set ready (i + 1) (start + d)) m 0) place ∙ getD-set-same ready (i + 1) (start + d) 0 (omega arith) in
             omega (arith, start-small)
 
-    pub told-more : (d : ℕ) (e : Operation) → i < length (j .operations) → o ≡ getD (j .operations) i e → d ≡ durationOf j o → d ≤ 8 → Told j (set starts i start) (set ready (i + 1) (start + d)) (i + 1)
+    pub told-more : (d : ℕ) (e : Operation) → i < length (j .operations) → o ≡ getD (j .operations) i e → d ≡ duration-of j o → d ≤ 8 → Told j (set starts i start) (set ready (i + 1) (start + d)) (i + 1)
     told-more d e h here of short =
         let rdy : List ℕ = take i (drop 1 ready) in
         let rest : List Operation = drop (i + 1) (j .operations) in
         let whole : length starts ≡ 64 = told .starts-whole in
         let ne : 0 ≢ i + 1 = omega arith in
-        let After : ℕ → List ℕ = λ s. s ∷ earliests-after j (rdy ++ ((s + durationOf j o) ∷ [])) rest in
+        let After : ℕ → List ℕ = λ s. s ∷ earliests-after j (rdy ++ ((s + duration-of j o) ∷ [])) rest in
         let step : After start ≡ earliests-after j rdy (drop i (j .operations)) =
         ap After start-is ∙ sym (ap (λ os. earliests-after j rdy os) (drop-more (j .operations) i e h ∙ ap (λ x. x ∷ rest) (sym here))) in
         record {
@@ -87,18 +90,17 @@ module _ {j : Job} {starts ready : List ℕ} {i : ℕ} (told : Told j starts rea
           ready-whole = length-set ready (i + 1) (start + d) ∙ told .ready-whole;
           outside = getD-set-other ready (i + 1) 0 (start + d) 0 ne ∙ told .outside;
           early = early-more d short;
+          spare = spare-more 0 starts i start (told .spare);
           left-over =
               ap₂ (λ xs r. xs ++ earliests-after j r rest) (take-more-set starts i start (omega arith)) (ready-more d ∙ ap (λ x. rdy ++ ((start + x) ∷ [])) of)
-              ∙ append-assoc (take i starts) (start ∷ []) (earliests-after j (rdy ++ ((start + durationOf j o) ∷ [])) rest)
+              ∙ append-assoc (take i starts) (start ∷ []) (earliests-after j (rdy ++ ((start + duration-of j o) ∷ [])) rest)
               ∙ ap (λ xs. take i starts ++ xs) step
               ∙ told .left-over;
         }
 
 -- all the starts are told
-pub told-all : {j : Job} {starts ready : List ℕ} {i : ℕ} → Told j starts ready i → i ≡ length (j .operations) → take (length (j .operations)) starts ≡ earliests j
-told-all {j} {starts} {ready} {i} told e =
+pub told-all : {j : Job} {starts ready : List ℕ} {i : ℕ} → Told j starts ready i → i ≡ length (j .operations) → i ≤ 64 → starts ≡ padded 64 0 (earliests j)
+told-all {j} {starts} {ready} {i} told e few =
     let F : List Operation → List ℕ = λ os. take i starts ++ earliests-after j (take i (drop 1 ready)) os in
-    ap (λ n. take n starts) (sym e)
-    ∙ sym (append-nil (take i starts))
-    ∙ sym (ap F (drop-all i (j .operations) (omega arith)))
-    ∙ told .left-over
+    padded-from 0 starts (earliests j) i (omega (arith, told .starts-whole))
+    (sym (append-nil (take i starts)) ∙ sym (ap F (drop-all i (j .operations) (omega arith))) ∙ told .left-over) (told .spare)

@@ -14,7 +14,7 @@ use Rattle.std.proofs.shelf.Signed.{ints}
 use Rattle.std.proofs.shelf.Tests.{cond-true, cond-false}
 use Rattle.std.proofs.shelf.Ways.{tells}
 use Rattle.rules.specs.declared.operation.Operation.{Operation}
-use Rattle.rules.specs.Jobs.{Job, Valid, durationOf}
+use Rattle.rules.specs.Jobs.{Job, Valid, duration-of}
 use Rattle.rules.specs.Frames.{least, uses, before-users, last-start, latests-from, latests}
 use Rattle.rules.proofs.Durations.{duration-short}
 
@@ -81,7 +81,7 @@ users-within n d low limit (o ∷ os) (z ∷ zs) short h k w =
 latests-within : (j : Job) → 1 ≤ j .steps → j .steps ≤ 64 → (n : ℕ) (os : List Operation) → Within (8 * length os) (latests-from j n os)
 latests-within j some few n [] = tt
 latests-within j some few n (o ∷ os) =
-    let d : ℕ = durationOf j o in
+    let d : ℕ = duration-of j o in
     let short : d ≤ 8 = duration-short j o in
     let later : Within (8 * length os) (latests-from j (suc n) os) = latests-within j some few (suc n) os in
     let low : 8 * length os + 8 ≡ 8 * suc (length os) = omega arith in
@@ -108,10 +108,10 @@ start-within j i q starts valid e h l whole =
 
 -- the latest start of one operation, in front of those of the later ones
 latest-ahead : (j : Job) (os : List Operation) (zs : List ℤ) (i : ℕ) (e : Operation) (z : ℤ) → i < length os → zs ≡ latests-from j (i + 2) (drop (i + 1) os)
-    → z ≡ before-users (i + 1) (durationOf j (getD os i e)) (last-start j (durationOf j (getD os i e))) (drop (i + 1) os) zs
+    → z ≡ before-users (i + 1) (duration-of j (getD os i e)) (last-start j (duration-of j (getD os i e))) (drop (i + 1) os) zs
     → z ∷ latests-from j (i + 2) (drop (i + 1) os) ≡ latests-from j (i + 1) (drop i os)
 latest-ahead j os zs i e z h known is =
-    let d : ℕ = durationOf j (getD os i e) in
+    let d : ℕ = duration-of j (getD os i e) in
     let next : i + 2 ≡ suc (i + 1) = omega arith in
     let F : ℕ → List ℤ = λ m. latests-from j m (drop (i + 1) os) in
     ap₂ (λ y ys. y ∷ ys) (is ∙ ap (before-users (i + 1) d (last-start j d) (drop (i + 1) os)) (known ∙ ap F next)) (ap F next)
@@ -121,10 +121,10 @@ latest-ahead j os zs i e z h known is =
 pub latest-found : (j : Job) (rows : List Operation) (starts : List ℤ) (i q : ℕ) (e : Operation) (z : ℤ) → rows ≡ j .operations → i < length rows
     → drop (i + 1) (take (length (j .operations)) starts) ≡ latests-from j (i + 2) (drop (i + 1) (j .operations))
     → length rows ≤ q
-    → before-users (i + 1) (durationOf j (getD rows i e)) z (drop q rows) (drop q (take (length rows) starts)) ≡ before-users (i + 1) (durationOf j (getD rows i e)) (last-start j (durationOf j (getD rows i e))) (drop (i + 1) rows) (drop (i + 1) (take (length rows) starts))
+    → before-users (i + 1) (duration-of j (getD rows i e)) z (drop q rows) (drop q (take (length rows) starts)) ≡ before-users (i + 1) (duration-of j (getD rows i e)) (last-start j (duration-of j (getD rows i e))) (drop (i + 1) rows) (drop (i + 1) (take (length rows) starts))
     → z ∷ latests-from j (i + 2) (drop (i + 1) (j .operations)) ≡ latests-from j (i + 1) (drop i (j .operations))
 latest-found j rows starts i q e z same h known all inv =
-    let d : ℕ = durationOf j (getD rows i e) in
+    let d : ℕ = duration-of j (getD rows i e) in
     let K : List Operation → Type 0 = λ os. drop (i + 1) (take (length os) starts) ≡ latests-from j (i + 2) (drop (i + 1) os) in
     let G : List Operation → Type 0 = λ os. z ∷ latests-from j (i + 2) (drop (i + 1) os) ≡ latests-from j (i + 1) (drop i os) in
     subst G same

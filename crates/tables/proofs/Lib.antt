@@ -1,2 +1,3 @@
 mod EarliestLoop
 mod LatestLoop
+pub mod Padded

@@ -7,7 +7,8 @@ use rules::operation::Operation;
 
 const MOST_KINDS: usize = 8;
 
-const MOST_OPERATIONS: usize = 64;
+/// How many operations a job holds at most.
+pub const MOST_OPERATIONS: usize = 64;
 
 const MOST_STEPS: u8 = 64;
 

@@ -1,7 +1,7 @@
 //! The calls on a job.
 ghost use mathlib.Core.Path.{_≡_};
 ghost use Rattle.std.specs.Vec.{made};
-ghost use Rattle.rules.specs.Changes.{Made-are-valid};
+ghost use Rattle.rules.specs.Changes.{Ranges-are-exact};
 ghost use Rattle.rules.specs.declared.edit.Edit.the-variants.{AddKind, AddLibraryKind, AddOperation, SetLimits};
 ghost use Rattle.rules.specs.Edits.{Became, Carried-out};
 ghost use Rattle.rules.specs.Encoding.{Files-stand-for-edits};
@@ -25,7 +25,7 @@ impl Job {
     /// A job with no kinds, no operations, one step and latency 0.
     pub fn new() -> Self
         ensures fresh { λ r. ⌜ job-of r ≡ fresh ⌝ }
-        ensures ranges { λ _. ⌜ Made-are-valid ⌝ }
+        ensures ranges { λ _. ⌜ Ranges-are-exact ⌝ }
     {
         Job::of(Tables::new())
     }

@@ -7,7 +7,7 @@ use mir.Val.{SFits, toZ, ofZ}
 use mir.Syntax.{w16}
 use borrow.Author.Needs.{needs}
 use Rattle.std.proofs.shelf.Signed.{toZ-ofZ, toZ-pos}
-use Rattle.rules.specs.Frames.{earliest-start, latest-start}
+use Rattle.rules.specs.Frames.{earliests, latests, earliest-start, latest-start}
 use Rattle.job.specs.Held.{job-of}
 use Rattle.rules.specs.Jobs.{Job}
 use Rattle.tables.specs.Tables.{filled}
@@ -22,7 +22,7 @@ cast-result c =
     let held = ap length (c .operations .ensures) in
     let small = earliest-small j (valid-out (c .args .self .now .tables .valid)) (c .args .number) (c .args .number) (omega arith) (omega arith) (omega arith) in
     let few = valid-out (c .args .self .now .tables .valid) .few-operations in
-    let start : getD (c .args .self .now .earliest) (c .args .number - 1) 0 ≡ earliest-start j (c .args .number) = row-of (length (j .operations)) (c .args .self .now .earliest) (c .args .number) 0 (c .args .self .now .«from_earliest») (omega arith) (omega arith) in
+    let start : getD (c .args .self .now .earliest) (c .args .number - 1) 0 ≡ earliest-start j (c .args .number) = row-of (c .args .self .now .earliest) (earliests j) 0 (c .args .number) (c .args .self .now .«from_earliest») (omega arith) in
     omega arith
 
 pub returns : need.returns
@@ -31,8 +31,8 @@ returns c =
     let held = ap length (c .operations .ensures) in
     let small = earliest-small j (valid-out (c .args .self .now .tables .valid)) (c .args .number) (c .args .number) (omega arith) (omega arith) (omega arith) in
     let few = valid-out (c .args .self .now .tables .valid) .few-operations in
-    let start : getD (c .args .self .now .earliest) (c .args .number - 1) 0 ≡ earliest-start j (c .args .number) = row-of (length (j .operations)) (c .args .self .now .earliest) (c .args .number) 0 (c .args .self .now .«from_earliest») (omega arith) (omega arith) in
-    let end : getD (c .args .self .now .latest) (c .args .number - 1) (pos 0) ≡ latest-start j (c .args .number) = row-of (length (j .operations)) (c .args .self .now .latest) (c .args .number) (pos 0) (c .args .self .now .«to_latest») (omega arith) (omega arith) in
+    let start : getD (c .args .self .now .earliest) (c .args .number - 1) 0 ≡ earliest-start j (c .args .number) = row-of (c .args .self .now .earliest) (earliests j) 0 (c .args .number) (c .args .self .now .«from_earliest») (omega arith) in
+    let end : getD (c .args .self .now .latest) (c .args .number - 1) (pos 0) ≡ latest-start j (c .args .number) = row-of (c .args .self .now .latest) (latests j) (pos 0) (c .args .number) (c .args .self .now .«to_latest») (omega arith) in
     let fits : SFits w16 (getD (c .args .self .now .latest) (c .args .number - 1) (pos 0)) = search needs in
     record {
       exact = frame-told j (c .args .number) _ _ (omega arith) (omega arith) (toZ-pos w16 _ (omega arith) ∙ ap pos start) (toZ-ofZ w16 _ fits ∙ end);

@@ -36,4 +36,4 @@ loop-i-again c =
 pub returns : need.returns
 returns c =
     let rows : length (c .as-slice-operation-items .result .now) ≡ length (tables-job (c .args .self .now) .operations) = ap length (c .as-slice-operation-items .ensures) in
-    told-all (c .loop-i .inv) (omega arith)
+    told-all (c .loop-i .inv) (omega arith) (omega (arith, valid-out (c .args .self .now .valid) .few-operations))

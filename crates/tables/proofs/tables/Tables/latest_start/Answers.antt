@@ -7,7 +7,7 @@ use lib.IntN.{ℤ, pos, _-ℤ_}
 use lib.ListN.{length, take, drop, getD}
 use Rattle.std.specs.Numbers.{minZ}
 use Rattle.std.proofs.shelf.Signed.{ints}
-use Rattle.rules.specs.Jobs.{durationOf}
+use Rattle.rules.specs.Jobs.{duration-of}
 use Rattle.rules.specs.Frames.{least, uses, before-users}
 use Rattle.tables.specs.Held.{tables-job}
 use Rattle.rules.proofs.Durations.{no-operation, duration-short}
@@ -19,7 +19,7 @@ use Rattle.tables.proofs.tables.Tables.latest_start.Needs.{then-user-number, t
 pub loop-q-holds : need.loop-q-holds
 loop-q-holds c =
     let j = tables-job (c .args .self .now) in
-    let d = durationOf j (getD (c .as-slice-rows .result .now) (c .args .i) no-operation) in
+    let d = duration-of j (getD (c .as-slice-rows .result .now) (c .args .i) no-operation) in
     let short : d ≤ 8 = duration-short j (getD (c .as-slice-rows .result .now) (c .args .i) no-operation) in
     let same : c .duration-duration .result ≡ d = c .duration-duration .ensures in
     let valid = valid-out (c .args .self .now .valid) in
@@ -39,7 +39,7 @@ loop-q-again c =
     let j = tables-job (c .args .self .now) in
     let n = c .args .i + 1 in
     let o = getD (c .as-slice-rows .result .now) (c .loop-q .q) no-operation in
-    let d = durationOf j (getD (c .as-slice-rows .result .now) (c .args .i) no-operation) in
+    let d = duration-of j (getD (c .as-slice-rows .result .now) (c .args .i) no-operation) in
     let z = getD (c .args .starts .now) (c .loop-q .q) (pos 0) in
     let rows : length (c .as-slice-rows .result .now) ≡ length (j .operations) = ap length (c .as-slice-rows .ensures) in
     let few = valid-out (c .args .self .now .valid) .few-operations in
