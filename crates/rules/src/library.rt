@@ -17,6 +17,37 @@ pub struct LibraryUnit {
     pub draw: u16,
 }
 
+const HOUSE_LIBRARY: [LibraryUnit; 4] = [
+    // adder
+    LibraryUnit {
+        duration: 1,
+        busy: 1,
+        area: 32,
+        draw: 8,
+    },
+    // ALU
+    LibraryUnit {
+        duration: 1,
+        busy: 1,
+        area: 48,
+        draw: 12,
+    },
+    // multiplier
+    LibraryUnit {
+        duration: 2,
+        busy: 2,
+        area: 260,
+        draw: 70,
+    },
+    // pipelined multiplier
+    LibraryUnit {
+        duration: 2,
+        busy: 1,
+        area: 310,
+        draw: 90,
+    },
+];
+
 impl LibraryUnit {
     // The figures of a kind: the unit's, with a cap.
     fn with_cap(self, cap: u8) -> Figures
@@ -36,23 +67,11 @@ impl LibraryUnit {
 fn house_unit(number: u8) -> Option<LibraryUnit>
     ensures { λ r. ⌜ r ≡ numbered house-library number ⌝ }
 {
-    let (duration, busy, area, draw) = match number {
-        // adder
-        1 => (1, 1, 32, 8),
-        // ALU
-        2 => (1, 1, 48, 12),
-        // multiplier
-        3 => (2, 2, 260, 70),
-        // pipelined multiplier
-        4 => (2, 1, 310, 90),
-        _ => return None,
-    };
-    Some(LibraryUnit {
-        duration,
-        busy,
-        area,
-        draw,
-    })
+    let n = number as usize;
+    if n == 0 || n > HOUSE_LIBRARY.len() {
+        return None;
+    }
+    Some(HOUSE_LIBRARY[n - 1])
 }
 
 /// The unit of the house library with this number, from 1, as a kind with a cap. Refused: 4 no such number, 1 a cap out of its range.
