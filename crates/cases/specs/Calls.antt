@@ -1,6 +1,6 @@
 -- Short names for the calls of the tables, and what a call is answered.
 use Prim.Native.Nat.{ℕ, zero, suc}
-use mathlib.Core.List.{List, [], _∷_, _++_}
+use mathlib.Core.List.{List, [], _∷_}
 use Rattle.std.specs.declared.result.Result.{Result}
 use Rattle.std.specs.declared.result.Result.the-variants.{Ok, Err}
 use Rattle.rules.specs.declared.edit.Edit.the-variants.{AddKind, AddLibraryKind, AddOperation, SetLimits}

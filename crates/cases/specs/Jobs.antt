@@ -22,7 +22,7 @@ use Rattle.rules.specs.declared.refusal.Refusal.the-variants.{
   NothingToSearch,
   UnknownOperation,
 }
-use Rattle.rules.specs.Changes.{Change, load, after}
+use Rattle.rules.specs.Changes.{load, after}
 use Rattle.rules.specs.Files.{operation}
 use Rattle.rules.specs.Jobs.{Job, fresh}
 use Rattle.rules.specs.Refusals.{number}

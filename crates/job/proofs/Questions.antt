@@ -2,12 +2,9 @@
 use Prim.Native.Nat.{ℕ, zero, suc, pred, _-_, _≤_}
 use mathlib.Core.Path.{_≡_, ap₂, _∙_}
 use mathlib.Core.List.{List}
-use mathlib.Core.Bool.{_&&_}
 use native.Mathlib.Omega.{arith}
 use lib.ListN.{length, getD}
-use lib.Dec.{leb}
 use lib.IntN.{ℤ, pos}
-use Rattle.std.specs.declared.result.Result.{Result}
 use Rattle.std.specs.declared.result.Result.the-variants.{Ok}
 use Rattle.std.proofs.shelf.Tests.{and-from, le-leb}
 use Rattle.rules.specs.Frames.{earliest-start, latest-start, holds, frame-of}

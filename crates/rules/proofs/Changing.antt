@@ -1,9 +1,9 @@
 -- An edit that is accepted leaves a valid job.
 use Prim.Native.Nat.{ℕ, zero, suc, _≤_, _<_}
-use mathlib.Core.Path.{_≡_, refl, sym, subst}
+use mathlib.Core.Path.{_≡_, sym, subst}
 use mathlib.Core.Logic.{⊎-elim}
 use mathlib.Core.List.{List, [], _∷_, _++_}
-use mathlib.Core.Bool.{Bool, true, false, _&&_}
+use mathlib.Core.Bool.{Bool, true, _&&_}
 use native.Mathlib.Omega.{arith}
 use lib.ListN.{length, length-append}
 use lib.Dec.{T, leb, ltb}
@@ -77,6 +77,19 @@ kind-added j k valid few fast =
       earlier-operands = valid .earlier-operands;
     }
 
+-- the job with these kinds, or these operations, in place of its own
+abbrev pub of-kinds : Job → List Kind → Job
+of-kinds j ks = record { kinds = ks; operations = j .operations; steps = j .steps; latency = j .latency }
+
+abbrev pub of-operations : Job → List Operation → Job
+of-operations j os = record { kinds = j .kinds; operations = os; steps = j .steps; latency = j .latency }
+
+-- the same where the rows are told by what a push left
+pub kind-pushed : (j : Job) (k : Kind) (ks : List Kind) → Valid j → length (j .kinds) < 8 → restarts (j .latency) k ≡ true → ks ≡ j .kinds ++ (k ∷ []) → Valid (of-kinds j ks)
+kind-pushed j k ks valid few fast e =
+    let P : List Kind → Type 0 = λ xs. Valid (of-kinds j xs) in
+    subst P (sym e) (kind-added j k valid few fast)
+
 pub operation-added : (j : Job) (o : Operation) → Valid j → length (j .operations) < 64 → (leb 1 (o .kind) && leb (o .kind) (length (j .kinds))) ≡ true →
     leb (o .left) (length (j .operations)) ≡ true → leb (o .right) (length (j .operations)) ≡ true → Valid (plus-operation j o)
 operation-added j o valid few held left right =
@@ -94,6 +107,12 @@ operation-added j o valid few held left right =
       earlier-operands = push-holds (λ n x. (x .left < n) × (x .right < n)) (j .operations) o (valid .earlier-operands)
           (omega (arith, leb-true (o .left) (length (j .operations)) left), omega (arith, leb-true (o .right) (length (j .operations)) right));
     }
+
+pub operation-pushed : (j : Job) (o : Operation) (os : List Operation) → Valid j → length (j .operations) < 64 → (leb 1 (o .kind) && leb (o .kind) (length (j .kinds))) ≡ true →
+    leb (o .left) (length (j .operations)) ≡ true → leb (o .right) (length (j .operations)) ≡ true → os ≡ j .operations ++ (o ∷ []) → Valid (of-operations j os)
+operation-pushed j o os valid few held left right e =
+    let P : List Operation → Type 0 = λ xs. Valid (of-operations j xs) in
+    subst P (sym e) (operation-added j o valid few held left right)
 
 pub limits-set : (j : Job) (t l : ℕ) → Valid j → ((leb 1 t && leb t 64) && leb l 64) ≡ true → all-restart l (j .kinds) ≡ true → Valid (limited j t l)
 limits-set j t l valid inside fast = record {

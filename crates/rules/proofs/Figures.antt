@@ -1,15 +1,10 @@
 -- The figures of a kind make that kind again.
-use Prim.Native.Nat.{ℕ}
 use native.Mathlib.Bridge.{le-prop}
 use mathlib.Core.Path.{_≡_}
-use mathlib.Core.Bool.{Bool, true, false}
-use lib.Dec.{T, leb, lit≤}
-use Rattle.std.specs.declared.result.Result.{Result}
+use lib.Dec.{leb, lit≤}
 use Rattle.std.specs.declared.result.Result.the-variants.{Ok}
-use Rattle.std.proofs.shelf.Tests.{false≢true, le-leb}
+use Rattle.std.proofs.shelf.Tests.{le-leb}
 use Rattle.rules.specs.declared.kind.Kind.{Kind}
-use Rattle.rules.specs.declared.refusal.Refusal.{Refusal}
-use Rattle.rules.specs.Refusals.{where-holds}
 use Rattle.rules.specs.Edits.{kind-of}
 use Rattle.rules.specs.Files.{figures}
 use Rattle.rules.proofs.Tests.{where-on}

@@ -2,10 +2,9 @@
 use Prim.Native.Nat.{ℕ, zero, suc, _+_, _≤_, _<_}
 use mathlib.Core.Path.{_≡_, refl, sym, ap, _∙_}
 use mathlib.Core.List.{List, [], _∷_, _++_, map, append-nil, append-assoc}
-use mathlib.Core.Bool.{true, _&&_}
+use mathlib.Core.Bool.{true}
 use native.Mathlib.Omega.{arith}
 use lib.ListN.{length, length-append}
-use lib.Dec.{leb, ltb}
 use Rattle.std.specs.declared.result.Result.{Result}
 use Rattle.std.specs.declared.result.Result.the-variants.{Ok, Err}
 use Rattle.std.specs.declared.option.Option.the-variants.{Some}
@@ -21,7 +20,7 @@ use Rattle.rules.specs.Changes.{Change, edit, load, unless-refused, changed, a
 use Rattle.rules.proofs.Numbered.{none-some}
 use Rattle.rules.proofs.Figures.{kind-of-kind}
 use Rattle.rules.proofs.Outcomes.{kind-taken, limits-taken, operation-taken, was-accepted}
-use Rattle.rules.proofs.Changing.{Leaves-valid, fresh-valid, edited-valid}
+use Rattle.rules.proofs.Changing.{of-kinds, of-operations, Leaves-valid, fresh-valid, edited-valid}
 use Rattle.rules.proofs.Reading.{loaded-valid}
 
 -- ---- every job that is made is valid
@@ -52,10 +51,6 @@ unfolding add-kind
 kind-accepted j k few fast =
     ap (λ r. unless-refused j (with-kind j r)) (kind-of-kind k)
     ∙ ap (unless-refused j) (was-accepted j (with-kind j (Ok k)) (plus-kind j k) (kind-taken j k few fast (plus-kind j k) refl))
-
--- the job with these kinds in place of its own
-abbrev of-kinds : Job → List Kind → Job
-of-kinds j ks = record { kinds = ks; operations = j .operations; steps = j .steps; latency = j .latency }
 
 -- at latency 0 every kind restarts in time
 kinds-made : (j : Job) (ks : List Kind) → j .latency ≡ 0 → length (j .kinds) + length ks ≤ 8 → after j (map add-kind ks) ≡ of-kinds j (j .kinds ++ ks)
@@ -95,10 +90,6 @@ operation-accepted j o few h =
     (was-accepted j (with-operation j o) (plus-operation j o)
     (operation-taken j o few (and-from _ _ (le-leb 1 (o .kind) (h .0)) (le-leb (o .kind) (length (j .kinds)) (h .1)))
     (le-leb (o .left) (length (j .operations)) (h .2)) (le-leb (o .right) (length (j .operations)) (h .3)) (plus-operation j o) refl))
-
--- the job with these operations in place of its own
-abbrev of-operations : Job → List Operation → Job
-of-operations j os = record { kinds = j .kinds; operations = os; steps = j .steps; latency = j .latency }
 
 -- operations to come, of which each names a kind of the job and operands before it
 record Follow (j : Job) (os : List Operation) : Type 0 where

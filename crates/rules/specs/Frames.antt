@@ -8,10 +8,9 @@ use lib.ListN.{length, getD}
 use lib.Dec.{eqb, leb}
 use lib.IntN.{ℤ, pos, _+ℤ_, _-ℤ_}
 use lib.Signed.{leZ, _≤ℤ_}
-use Rattle.std.specs.declared.option.Option.{Option}
 use Rattle.std.specs.declared.option.Option.the-variants.{Some, None}
 use Rattle.std.specs.declared.result.Result.{Result}
-use Rattle.std.specs.declared.result.Result.the-variants.{Ok, Err}
+use Rattle.std.specs.declared.result.Result.the-variants.{Ok}
 use Rattle.rules.specs.declared.operation.Operation.{Operation}
 use Rattle.rules.specs.declared.refusal.Refusal.the-variants.{UnknownOperation}
 use Rattle.rules.specs.Jobs.{Job, numbered, duration-of}

@@ -1,16 +1,15 @@
-use Prim.Native.Nat.{ℕ, pred, _-_, _*_, _≤_, _<_}
-use mathlib.Core.Path.{_≡_, sym, ap, subst, _∙_}
+use Prim.Native.Nat.{_-_}
+use mathlib.Core.Path.{_≡_, ap, _∙_}
 use native.Mathlib.Omega.{arith}
-use lib.IntN.{ℤ, pos}
-use lib.ListN.{length, take, getD}
-use mir.Val.{SFits, toZ, ofZ}
+use lib.IntN.{pos}
+use lib.ListN.{length, getD}
+use mir.Val.{SFits}
 use mir.Syntax.{w16}
 use borrow.Author.Needs.{needs}
 use Rattle.std.proofs.shelf.Signed.{toZ-ofZ, toZ-pos}
 use Rattle.rules.specs.Frames.{earliests, latests, earliest-start, latest-start}
 use Rattle.job.specs.Held.{job-of}
 use Rattle.rules.specs.Jobs.{Job}
-use Rattle.tables.specs.Tables.{filled}
 use Rattle.rules.proofs.FramesRight.{frames-right, earliest-small}
 use Rattle.job.proofs.Questions.{row-of, frame-told}
 use Rattle.rules.proofs.Validity.{valid-out}
