@@ -1,3 +1,3 @@
 mod Answered
 mod Framed
-mod Known
+mod Computed

@@ -1,4 +1,4 @@
 pub mod Calls
 pub mod Answers
 pub mod Frames
-pub mod Jobs
+pub mod Known

@@ -50,7 +50,7 @@ kind-accepted : (j : Job) (k : Kind) → length (j .kinds) < 8 → restarts (j .
 unfolding add-kind
 kind-accepted j k few fast =
     ap (λ r. unless-refused j (with-kind j r)) (kind-of-kind k)
-    ∙ ap (unless-refused j) (was-accepted j (with-kind j (Ok k)) (plus-kind j k) (kind-taken j k few fast (plus-kind j k) refl))
+    ∙ ap (unless-refused j) (was-accepted j (with-kind j (Ok k)) (plus-kind j k) (kind-taken j k few fast (j .kinds ++ (k ∷ [])) refl))
 
 -- at latency 0 every kind restarts in time
 kinds-made : (j : Job) (ks : List Kind) → j .latency ≡ 0 → length (j .kinds) + length ks ≤ 8 → after j (map add-kind ks) ≡ of-kinds j (j .kinds ++ ks)
@@ -89,7 +89,7 @@ operation-accepted j o few h =
     ap (unless-refused j)
     (was-accepted j (with-operation j o) (plus-operation j o)
     (operation-taken j o few (and-from _ _ (le-leb 1 (o .kind) (h .0)) (le-leb (o .kind) (length (j .kinds)) (h .1)))
-    (le-leb (o .left) (length (j .operations)) (h .2)) (le-leb (o .right) (length (j .operations)) (h .3)) (plus-operation j o) refl))
+    (le-leb (o .left) (length (j .operations)) (h .2)) (le-leb (o .right) (length (j .operations)) (h .3)) (j .operations ++ (o ∷ [])) refl))
 
 -- operations to come, of which each names a kind of the job and operands before it
 record Follow (j : Job) (os : List Operation) : Type 0 where

@@ -1,7 +1,7 @@
 -- What each edit comes to, by the tests that it passed or failed.
 use Prim.Native.Nat.{ℕ, _≤_, _<_}
 use mathlib.Core.Path.{_≡_, refl, sym, ap, subst}
-use mathlib.Core.List.{List, _∷_}
+use mathlib.Core.List.{List, [], _∷_, _++_}
 use mathlib.Core.Bool.{true, false, _&&_}
 use native.Mathlib.Omega.{arith}
 use lib.ListN.{length}
@@ -12,8 +12,9 @@ use Rattle.std.proofs.shelf.Tests.{leb-true, lt-ltb, and-from}
 use Rattle.rules.specs.declared.kind.Figures.{Figures}
 use Rattle.rules.specs.declared.kind.Kind.{Kind}
 use Rattle.rules.specs.declared.operation.Operation.{Operation}
-use Rattle.rules.specs.Edits.{kind-of, restarts, all-restart, plus-kind, plus-operation, limited, with-kind, with-operation, with-limits, Became}
+use Rattle.rules.specs.Edits.{kind-of, restarts, all-restart, limited, with-kind, with-operation, with-limits, Became}
 use Rattle.rules.specs.Jobs.{Job}
+use Rattle.rules.proofs.Changing.{of-kinds, of-operations}
 use Rattle.rules.proofs.Tests.{where-either, where-on, where-off}
 
 -- figures out of range
@@ -34,10 +35,10 @@ module _ (j : Job) (k : Kind) (room : length (j .kinds) < 8) where
       where-on (λ w. Became j w (Err 13) j) (ltb (length (j .kinds)) 8) _ _ (lt-ltb (length (j .kinds)) 8 room) (λ _.
       where-off (λ w. Became j w (Err 13) j) (restarts (j .latency) k) _ _ slow (refl, refl))
 
-  pub kind-taken : restarts (j .latency) k ≡ true → (now : Job) → now ≡ plus-kind j k → Became j (with-kind j (Ok k)) (Ok tt) now
-  kind-taken fast now e =
-      where-on (λ w. Became j w (Ok tt) now) (ltb (length (j .kinds)) 8) _ _ (lt-ltb (length (j .kinds)) 8 room) (λ _.
-      where-on (λ w. Became j w (Ok tt) now) (restarts (j .latency) k) _ _ fast (λ _. (refl, e)))
+  pub kind-taken : restarts (j .latency) k ≡ true → (ks : List Kind) → ks ≡ j .kinds ++ (k ∷ []) → Became j (with-kind j (Ok k)) (Ok tt) (of-kinds j ks)
+  kind-taken fast ks e =
+      where-on (λ w. Became j w (Ok tt) (of-kinds j ks)) (ltb (length (j .kinds)) 8) _ _ (lt-ltb (length (j .kinds)) 8 room) (λ _.
+      where-on (λ w. Became j w (Ok tt) (of-kinds j ks)) (restarts (j .latency) k) _ _ fast (λ _. (refl, ap (of-kinds j) e)))
 
 module _ (j : Job) (o : Operation) (room : length (j .operations) < 64) where
   with-room : ltb (length (j .operations)) 64 ≡ true
@@ -55,12 +56,12 @@ module _ (j : Job) (o : Operation) (room : length (j .operations) < 64) where
         where-on (λ w. Became j w (Err 12) j) (leb 1 (o .kind) && leb (o .kind) (length (j .kinds))) _ _ held (λ _.
         where-off (λ w. Became j w (Err 12) j) (leb (o .left) (length (j .operations)) && leb (o .right) (length (j .operations))) _ _ beyond (refl, refl)))
 
-    pub operation-taken : leb (o .left) (length (j .operations)) ≡ true → leb (o .right) (length (j .operations)) ≡ true → (now : Job) → now ≡ plus-operation j o → Became j (with-operation j o) (Ok tt) now
-    operation-taken left right now e =
-        where-on (λ w. Became j w (Ok tt) now) (ltb (length (j .operations)) 64) _ _ with-room (λ _.
-        where-on (λ w. Became j w (Ok tt) now) (leb 1 (o .kind) && leb (o .kind) (length (j .kinds))) _ _ held (λ _.
-        where-on (λ w. Became j w (Ok tt) now) (leb (o .left) (length (j .operations)) && leb (o .right) (length (j .operations))) _ _
-        (and-from _ _ left right) (λ _. (refl, e))))
+    pub operation-taken : leb (o .left) (length (j .operations)) ≡ true → leb (o .right) (length (j .operations)) ≡ true → (os : List Operation) → os ≡ j .operations ++ (o ∷ []) → Became j (with-operation j o) (Ok tt) (of-operations j os)
+    operation-taken left right os e =
+        where-on (λ w. Became j w (Ok tt) (of-operations j os)) (ltb (length (j .operations)) 64) _ _ with-room (λ _.
+        where-on (λ w. Became j w (Ok tt) (of-operations j os)) (leb 1 (o .kind) && leb (o .kind) (length (j .kinds))) _ _ held (λ _.
+        where-on (λ w. Became j w (Ok tt) (of-operations j os)) (leb (o .left) (length (j .operations)) && leb (o .right) (length (j .operations))) _ _
+        (and-from _ _ left right) (λ _. (refl, ap (of-operations j) e))))
 
 module _ (j : Job) (t l : ℕ) where
   pub limits-out : ((leb 1 t && leb t 64) && leb l 64) ≡ false → Became j (with-limits j t l) (Err 2) j

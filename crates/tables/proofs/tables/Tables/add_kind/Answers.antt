@@ -3,8 +3,7 @@ use native.Mathlib.Omega.{arith}
 use lib.ListN.{length}
 use Rattle.tables.specs.Held.{tables-job}
 use Rattle.tables.specs.Tables.{filled}
-use Rattle.rules.specs.Jobs.{Job}
-use Rattle.rules.proofs.Changing.{of-kinds, kind-pushed}
+use Rattle.rules.proofs.Changing.{kind-pushed}
 use Rattle.rules.proofs.Outcomes.{kind-too-slow, kind-taken}
 use Rattle.rules.proofs.Validity.{valid-out}
 use Rattle.tables.proofs.tables.Tables.add_kind.Needs as need
@@ -23,5 +22,5 @@ ghost-self c = (
 
 pub returns : need.returns
 returns c =
-    let old : Job = tables-job (c .args .self .now) in
-    kind-taken old (c .args .kind) (omega (arith, ap length (c .as-slice .ensures))) (sym (c .if-not-restarts-within .ensures tt)) _ (ap (of-kinds old) (c .push .ensures))
+    kind-taken (tables-job (c .args .self .now)) (c .args .kind) (omega (arith, ap length (c .as-slice .ensures))) (sym (c .if-not-restarts-within .ensures tt))
+    (filled (c .push .last .self)) (c .push .ensures)

@@ -2,8 +2,7 @@ use mathlib.Core.Path.{sym, ap}
 use native.Mathlib.Omega.{arith}
 use lib.ListN.{length}
 use Rattle.std.proofs.shelf.Tests.{and-left, and-right}
-use Rattle.rules.specs.Jobs.{Job}
-use Rattle.rules.proofs.Changing.{of-operations, operation-pushed}
+use Rattle.rules.proofs.Changing.{operation-pushed}
 use Rattle.rules.proofs.Outcomes.{kind-not-held, operand-not-held, operation-taken}
 use Rattle.rules.proofs.Validity.{valid-out}
 use Rattle.tables.specs.Held.{tables-job}
@@ -34,6 +33,5 @@ ghost-self c = (
 
 pub returns : need.returns
 returns c =
-    let old : Job = tables-job (c .args .self .now) in
-    operation-taken old (c .args .operation) (omega (arith, ap length (c .as-slice .ensures))) (sym (c .if-not-kind-held .ensures tt))
-    (sym (c .if-not-operand-held .ensures tt)) (sym (c .if-not-operand-held-2 .ensures tt)) _ (ap (of-operations old) (c .push .ensures))
+    operation-taken (tables-job (c .args .self .now)) (c .args .operation) (omega (arith, ap length (c .as-slice .ensures))) (sym (c .if-not-kind-held .ensures tt))
+    (sym (c .if-not-operand-held .ensures tt)) (sym (c .if-not-operand-held-2 .ensures tt)) (filled (c .push .last .self)) (c .push .ensures)

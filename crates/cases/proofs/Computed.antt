@@ -1,9 +1,9 @@
 -- Refusals, library and records, computed.
 use mathlib.Core.Path.{refl}
-use Rattle.cases.specs.Jobs.{Known-jobs}
+use Rattle.cases.specs.Known.{Known}
 
-pub known-jobs : Known-jobs
-known-jobs = record {
+pub known : Known
+known = record {
   numbers = refl;
   new = (refl, refl);
   by-library = refl;

@@ -28,7 +28,7 @@ use Rattle.rules.specs.Jobs.{Job, fresh}
 use Rattle.rules.specs.Refusals.{number}
 use Rattle.cases.specs.Calls.{kind, library, limits, row}
 
-abbrev every-refusal : List Refusal
+abbrev pub every-refusal : List Refusal
 every-refusal =
     FigureOutOfRange ∷ LimitOutOfRange ∷ AllowanceOutOfRange ∷ UnknownLibraryUnit ∷ NotAJobFile ∷ TornRecord ∷ UnknownRecord ∷ ShortBuffer
     ∷ TooManyKinds ∷ TooManyOperations ∷ UnknownKind ∷ UnknownOperand ∷ BusyBeyondLatency ∷ NothingToSearch ∷ UnknownOperation ∷ []
@@ -55,7 +55,7 @@ each-job = record {
   latency = 7;
 }
 
-pub record Known-jobs : Type 0 where
+pub record Known : Type 0 where
   pub numbers : map number every-refusal ≡ 1 ∷ 2 ∷ 3 ∷ 4 ∷ 5 ∷ 6 ∷ 7 ∷ 8 ∷ 9 ∷ 10 ∷ 11 ∷ 12 ∷ 13 ∷ 14 ∷ 15 ∷ []
   pub new : (fresh .steps ≡ 1) × (fresh .latency ≡ 0)
   pub by-library : after fresh (library 1 5 ∷ library 2 6 ∷ library 3 7 ∷ library 4 8 ∷ []) .kinds ≡ library-kinds
