@@ -38,6 +38,10 @@ by-the-right = kind 3 1 4 ∷ limits 9 0 ∷ row 1 0 0 ∷ row 1 0 1 ∷ []
 abbrev two-users : List Change
 two-users = kind 3 3 4 ∷ kind 1 1 4 ∷ kind 2 2 4 ∷ limits 10 0 ∷ row 1 0 0 ∷ row 2 1 0 ∷ row 3 0 1 ∷ row 2 3 2 ∷ []
 
+-- of the users of operation 1 the first is the nearest
+abbrev several-users : List Change
+several-users = kind 2 2 4 ∷ limits 10 0 ∷ row 1 0 0 ∷ row 1 1 0 ∷ row 1 2 1 ∷ row 1 0 1 ∷ []
+
 abbrev pub frames : List Row
 frames =
     framed short-of-steps 1 (pos 1) (negsuc 1) ∷
@@ -51,4 +55,6 @@ frames =
     framed two-users 2 (pos 4) (pos 9) ∷
     framed two-users 3 (pos 4) (pos 8) ∷
     framed two-users 4 (pos 6) (pos 10) ∷
+    framed several-users 1 (pos 1) (pos 5) ∷
+    framed several-users 4 (pos 3) (pos 9) ∷
     []

@@ -50,4 +50,4 @@ pub fn refusal_numbers() -> [u8; 15]
 
 const ANSWERS: usize = 77;
 
-const FRAMES: usize = 11;
+const FRAMES: usize = 13;
