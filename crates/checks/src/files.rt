@@ -217,7 +217,9 @@ fn loaded_over_another_job() -> Result<(), Fail> {
         job.load(&[1, 0, 3, 4, 1, 1, 0, 4, 2, 1, 0, 0, 0, 3, 3, 6, 4])
             .is_ok(),
     )?;
-    check(job.load(&[1, 0, 3, 3, 9, 0, 0, 3, 3, 0, 0]).is_err()).note("no steps, at offset 6")?;
+    check(job.load(&[1, 0, 3, 3, 9, 0, 0, 3, 3, 0, 0]).is_err()).note(
+        "a file at fault in its second record",
+    )?;
     check(holds(&job, 1, 1, 6, 4)).note("the old job stays")?;
     check_eq(job.frame(1).ok(), Some((1, 6))).note("the old frame stays")?;
     check(job.load(&[1, 0, 3, 3, 9, 0]).is_ok())?;

@@ -1,6 +1,6 @@
 -- An edit that is accepted leaves a valid job.
 use Prim.Native.Nat.{ℕ, zero, suc, _≤_, _<_}
-use mathlib.Core.Path.{_≡_, sym, subst}
+use mathlib.Core.Path.{_≡_, sym, subst, refl, ap}
 use mathlib.Core.Logic.{⊎-elim}
 use mathlib.Core.List.{List, [], _∷_, _++_}
 use mathlib.Core.Bool.{Bool, true, _&&_}
@@ -47,21 +47,25 @@ all-restart-tells l (x ∷ ks) h (suc (suc i)) k e some = all-restart-tells l ks
 
 -- ---- the jobs that edits make
 
-pub fresh-valid : Valid fresh
-fresh-valid = record {
-  few-kinds = omega arith;
-  few-operations = omega arith;
-  some-steps = omega arith;
-  few-steps = omega arith;
+-- a job with no rows is valid at latency 0, whatever its steps
+pub empty-valid : (ks : List Kind) (os : List Operation) (t : ℕ) → ks ≡ [] → os ≡ [] → 1 ≤ t → t ≤ 64 → Valid (record { kinds = ks; operations = os; steps = t; latency = 0 })
+empty-valid ks os t no-kinds no-operations some few = record {
+  few-kinds = omega (arith, ap length no-kinds);
+  few-operations = omega (arith, ap length no-operations);
+  some-steps = some;
+  few-steps = few;
   short-latency = omega arith;
-  restarts = λ n k e some. omega arith;
-  held-kind = λ n o e. absurd (none-at n o e);
-  earlier-operands = λ n o e. absurd (none-at n o e);
+  restarts = λ n k e late. omega arith;
+  held-kind = λ n o e. absurd (none-at n o (subst (λ xs. numbered xs n ≡ Some o) no-operations e));
+  earlier-operands = λ n o e. absurd (none-at n o (subst (λ xs. numbered xs n ≡ Some o) no-operations e));
 }
   where
     none-at : (n : ℕ) (o : Operation) → numbered [] n ≡ Some o → ⊥
     none-at zero o e = none-some o e
     none-at (suc n) o e = none-some o e
+
+pub fresh-valid : Valid fresh
+fresh-valid = empty-valid [] [] 1 refl refl (omega arith) (omega arith)
 
 pub kind-added : (j : Job) (k : Kind) → Valid j → length (j .kinds) < 8 → restarts (j .latency) k ≡ true → Valid (plus-kind j k)
 kind-added j k valid few fast =
