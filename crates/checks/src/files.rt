@@ -17,22 +17,160 @@ struct Case {
     answer: Option<(u8, usize)>,
 }
 
-fn given(what: &'static str, file: &'static [u8], answer: Option<(u8, usize)>) -> Case {
-    Case { what, file, answer }
-}
+// Whole files, torn records, unknown records, and each refusal behind a first record that ends at offset 5.
+const CASES: [Case; 29] = [
+    Case {
+        what: "empty",
+        file: &[],
+        answer: Some((5, 0)),
+    },
+    Case {
+        what: "version 0",
+        file: &[0],
+        answer: Some((5, 0)),
+    },
+    Case {
+        what: "version 2",
+        file: &[2, 0, 3, 3, 6, 4],
+        answer: Some((5, 0)),
+    },
+    Case {
+        what: "no records",
+        file: &[1],
+        answer: None,
+    },
+    Case {
+        what: "one record",
+        file: &[1, 0, 3, 3, 6, 4],
+        answer: None,
+    },
+    Case {
+        what: "a body cut short",
+        file: &[1, 0, 3, 3, 6],
+        answer: Some((6, 1)),
+    },
+    Case {
+        what: "one byte of a length",
+        file: &[1, 0],
+        answer: Some((6, 1)),
+    },
+    Case {
+        what: "one byte left",
+        file: &[1, 0, 3, 3, 6, 4, 0],
+        answer: Some((6, 6)),
+    },
+    Case {
+        what: "an unknown tag too",
+        file: &[1, 0, 9, 5, 0],
+        answer: Some((6, 1)),
+    },
+    Case {
+        what: "a fault of the call too",
+        file: &[1, 0, 3, 3, 0],
+        answer: Some((6, 1)),
+    },
+    Case {
+        what: "the high byte counts",
+        file: &[1, 1, 3, 3, 6, 4],
+        answer: Some((6, 1)),
+    },
+    Case {
+        what: "length 0",
+        file: &[1, 0, 0],
+        answer: Some((7, 1)),
+    },
+    Case {
+        what: "a tag alone",
+        file: &[1, 0, 1, 3],
+        answer: Some((7, 1)),
+    },
+    Case {
+        what: "tag 0",
+        file: &[1, 0, 3, 0, 6, 4],
+        answer: Some((7, 1)),
+    },
+    Case {
+        what: "tag 5",
+        file: &[1, 0, 3, 5, 6, 4],
+        answer: Some((7, 1)),
+    },
+    Case {
+        what: "limits one too long",
+        file: &[1, 0, 4, 3, 6, 4, 0],
+        answer: Some((7, 1)),
+    },
+    Case {
+        what: "limits one too short",
+        file: &[1, 0, 2, 3, 6],
+        answer: Some((7, 1)),
+    },
+    Case {
+        what: "an operation one too long",
+        file: &[1, 0, 5, 2, 1, 0, 0, 0],
+        answer: Some((7, 1)),
+    },
+    Case {
+        what: "a library kind one too long",
+        file: &[1, 0, 4, 4, 1, 1, 1],
+        answer: Some((7, 1)),
+    },
+    Case {
+        what: "a kind one too short",
+        file: &[1, 0, 7, 1, 1, 1, 1, 0, 0, 0],
+        answer: Some((7, 1)),
+    },
+    Case {
+        what: "busy above duration",
+        file: &[1, 0, 3, 3, 6, 1, 0, 8, 1, 1, 2, 4, 0, 0, 0, 0],
+        answer: Some((1, 6)),
+    },
+    Case {
+        what: "no steps",
+        file: &[1, 0, 3, 3, 6, 1, 0, 3, 3, 0, 1],
+        answer: Some((2, 6)),
+    },
+    Case {
+        what: "library number 5",
+        file: &[1, 0, 3, 3, 6, 1, 0, 3, 4, 5, 1],
+        answer: Some((4, 6)),
+    },
+    Case {
+        what: "torn",
+        file: &[1, 0, 3, 3, 6, 1, 0, 3, 3, 6],
+        answer: Some((6, 6)),
+    },
+    Case {
+        what: "unknown",
+        file: &[1, 0, 3, 3, 6, 1, 0, 2, 9, 9],
+        answer: Some((7, 6)),
+    },
+    Case {
+        what: "no such kind",
+        file: &[1, 0, 3, 3, 6, 1, 0, 4, 2, 1, 0, 0],
+        answer: Some((11, 6)),
+    },
+    Case {
+        what: "its own operand",
+        file: &[1, 0, 3, 3, 6, 1, 0, 3, 4, 1, 1, 0, 4, 2, 1, 1, 0],
+        answer: Some((12, 11)),
+    },
+    Case {
+        what: "the kind comes second",
+        file: &[1, 0, 3, 3, 6, 1, 0, 3, 4, 3, 1],
+        answer: Some((13, 6)),
+    },
+    Case {
+        what: "the limits come second",
+        file: &[1, 0, 3, 4, 3, 1, 0, 3, 3, 6, 1],
+        answer: Some((13, 6)),
+    },
+];
 
 fn answer(file: &[u8]) -> Option<(u8, usize)> {
     match Job::new().load(file) {
         Ok(()) => None,
         Err(refusal) => Some((refusal.reason.number(), refusal.offset)),
     }
-}
-
-fn all_answered(cases: &[Case]) -> Result<(), Fail> {
-    for case in cases {
-        check_eq(answer(case.file), case.answer).note(case.what)?;
-    }
-    Ok(())
 }
 
 // A file of one part, and then another part so many times.
@@ -45,115 +183,21 @@ fn repeated(heap: Global, first: &[u8], part: &[u8], times: usize) -> Result<Vec
 }
 
 #[test]
-fn a_file_as_a_whole() -> Result<(), Fail> {
-    all_answered(
-        &[
-            given("empty", &[], Some((5, 0))),
-            given("version 0", &[0], Some((5, 0))),
-            given("version 2", &[2, 0, 3, 3, 6, 4], Some((5, 0))),
-            given("no records", &[1], None),
-            given("one record", &[1, 0, 3, 3, 6, 4], None),
-        ],
-    )
+fn each_file_is_answered() -> Result<(), Fail> {
+    for case in CASES.iter() {
+        check_eq(answer(case.file), case.answer).note(case.what)?;
+    }
+    Ok(())
 }
 
 #[test]
-fn the_longest_file(rt: LibcRuntime) -> Result<(), Fail> {
+fn long_files(rt: LibcRuntime) -> Result<(), Fail> {
     let longest = repeated(rt.alloc(), &[1], &[0, 3, 3, 6, 4], 819)?;
-    check_eq(longest.len(), 4096)?;
+    check(longest.len() == 4096)?;
     check_eq(answer(longest.as_slice()), None)?;
     let longer = repeated(rt.alloc(), &[1, 0], &[0, 3, 3, 6, 4], 819)?;
-    check_eq(longer.len(), 4097)?;
-    check_eq(answer(longer.as_slice()), Some((5, 0)))
-}
-
-#[test]
-fn torn_records() -> Result<(), Fail> {
-    all_answered(
-        &[
-            given("a body cut short", &[1, 0, 3, 3, 6], Some((6, 1))),
-            given("one byte of a length", &[1, 0], Some((6, 1))),
-            given("one byte left", &[1, 0, 3, 3, 6, 4, 0], Some((6, 6))),
-            given("an unknown tag too", &[1, 0, 9, 5, 0], Some((6, 1))),
-            given("a fault of the call too", &[1, 0, 3, 3, 0], Some((6, 1))),
-            given("the high byte counts", &[1, 1, 3, 3, 6, 4], Some((6, 1))),
-        ],
-    )
-}
-
-#[test]
-fn unknown_records() -> Result<(), Fail> {
-    all_answered(
-        &[
-            given("length 0", &[1, 0, 0], Some((7, 1))),
-            given("a tag alone", &[1, 0, 1, 3], Some((7, 1))),
-            given("tag 0", &[1, 0, 3, 0, 6, 4], Some((7, 1))),
-            given("tag 5", &[1, 0, 3, 5, 6, 4], Some((7, 1))),
-            given("limits one too long", &[1, 0, 4, 3, 6, 4, 0], Some((7, 1))),
-            given("limits one too short", &[1, 0, 2, 3, 6], Some((7, 1))),
-            given(
-                "an operation one too long",
-                &[1, 0, 5, 2, 1, 0, 0, 0],
-                Some((7, 1)),
-            ),
-            given(
-                "a library kind one too long",
-                &[1, 0, 4, 4, 1, 1, 1],
-                Some((7, 1)),
-            ),
-            given(
-                "a kind one too short",
-                &[1, 0, 7, 1, 1, 1, 1, 0, 0, 0],
-                Some((7, 1)),
-            ),
-        ],
-    )
-}
-
-// The limits' record takes the offsets 1 to 5, so each fault stands at 6 or later.
-#[test]
-fn refused_behind_the_first_record() -> Result<(), Fail> {
-    all_answered(
-        &[
-            given(
-                "busy above duration",
-                &[1, 0, 3, 3, 6, 1, 0, 8, 1, 1, 2, 4, 0, 0, 0, 0],
-                Some((1, 6)),
-            ),
-            given("no steps", &[1, 0, 3, 3, 6, 1, 0, 3, 3, 0, 1], Some((2, 6))),
-            given(
-                "library number 5",
-                &[1, 0, 3, 3, 6, 1, 0, 3, 4, 5, 1],
-                Some((4, 6)),
-            ),
-            given("torn", &[1, 0, 3, 3, 6, 1, 0, 3, 3, 6], Some((6, 6))),
-            given("unknown", &[1, 0, 3, 3, 6, 1, 0, 2, 9, 9], Some((7, 6))),
-            given(
-                "no such kind",
-                &[1, 0, 3, 3, 6, 1, 0, 4, 2, 1, 0, 0],
-                Some((11, 6)),
-            ),
-            given(
-                "its own operand",
-                &[1, 0, 3, 3, 6, 1, 0, 3, 4, 1, 1, 0, 4, 2, 1, 1, 0],
-                Some((12, 11)),
-            ),
-            given(
-                "the kind comes second",
-                &[1, 0, 3, 3, 6, 1, 0, 3, 4, 3, 1],
-                Some((13, 6)),
-            ),
-            given(
-                "the limits come second",
-                &[1, 0, 3, 4, 3, 1, 0, 3, 3, 6, 1],
-                Some((13, 6)),
-            ),
-        ],
-    )
-}
-
-#[test]
-fn too_many_rows(rt: LibcRuntime) -> Result<(), Fail> {
+    check(longer.len() == 4097)?;
+    check_eq(answer(longer.as_slice()), Some((5, 0)))?;
     let kinds = repeated(rt.alloc(), &[1], &[0, 3, 4, 1, 1], 9)?;
     check_eq(answer(kinds.as_slice()), Some((9, 41))).note(
         "a ninth kind, behind eight of 5 bytes",
