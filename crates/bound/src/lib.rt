@@ -1,4 +1,6 @@
 //! Bounds: lower bounds on the units of a kind that plans need, lawful by their type.
+#![tactic(auto)]
+
 mod bound;
 mod greater;
 mod placed;

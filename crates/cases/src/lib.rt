@@ -1,4 +1,6 @@
 //! Worked cases: tables of what the rules say, each row proved by computation.
+#![tactic(auto)]
+
 ghost use Rattle.std.specs.Prelude.{◌≡◌, map, length};
 ghost use Rattle.cases.specs.Answers.{answers, AllAnswered};
 ghost use Rattle.cases.specs.Costs.{Costed};

@@ -1,4 +1,6 @@
 //! What plans cost: schemes of cost, and the cost of a plan under any of them.
+#![tactic(auto)]
+
 mod area;
 mod ceiling;
 mod rank;

@@ -1,4 +1,6 @@
 //! A job for the planner: kinds of unit, operations, limits, the frame of each operation, and the job file.
+#![tactic(auto)]
+
 mod framed;
 
 pub use framed::Job;

@@ -1,4 +1,6 @@
 //! Tests of plans, costs and bounds on examples.
+#![tactic(auto)]
+
 #[cfg(test)]
 mod bounds;
 #[cfg(test)]

@@ -1,4 +1,6 @@
 //! The rules of a job: kinds of unit, operations, edits, the records of a job file, and why each is refused.
+#![tactic(auto)]
+
 pub mod edit;
 pub mod kind;
 pub mod library;

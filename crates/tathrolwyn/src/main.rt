@@ -1,4 +1,6 @@
 //! Reads a job file from standard input, and prints the job with the frame of each operation, or why the file is refused.
+#![tactic(auto)]
+
 mod input;
 mod listing;
 

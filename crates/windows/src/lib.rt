@@ -1,4 +1,6 @@
 //! The floor of Windows: operations that must be busy within a few steps need so many units there.
+#![tactic(auto)]
+
 mod floor;
 mod gather;
 mod stay;
