@@ -10,10 +10,10 @@ pub loop-k-preserved : goal.loop-k-preserved
 loop-k-preserved g c =
     let m : Meaning g.row.S-Value.Denot = g.S.Scheme.means c.args.scheme.now in
     let count : ℕ → ℕ = units (job_of c.args.job.now) c.args.slots.now in
-    let P : List Kind → Type 0 = λ ks. total_from m c.plus-units-spent.result (c.loop-k.k + 1 + 1) (drop (c.loop-k.k + 1) ks) count ≡ total_from m c.loop-k.spent (c.loop-k.k + 1) (drop c.loop-k.k ks) count in
+    let P : List Kind → Type 0 = λ ks. total_from m c.plus_units-spent.result (c.loop-k.k + 1 + 1) (drop (c.loop-k.k + 1) ks) count ≡ total_from m c.loop-k.spent (c.loop-k.k + 1) (drop c.loop-k.k ks) count in
     subst P c.kinds-kind-items.ensures
-    (total_more m count c.kinds-kind-items.result.now c.loop-k.spent c.plus-units-spent.result c.loop-k.k c.units-of-count.result c.kind-item.result (omega arith)
-    c.kind-item.is c.units-of-count.ensures c.plus-units-spent.ensures)
+    (total_more m count c.kinds-kind-items.result.now c.loop-k.spent c.plus_units-spent.result c.loop-k.k c.units_of-count.result c.kind-item.result (omega arith)
+    c.kind-item.is c.units_of-count.ensures c.plus_units-spent.ensures)
     ∙ c.loop-k.invariant
 
 pub returns : goal.returns

@@ -11,7 +11,7 @@ pub loop-rest-init : goal.loop-rest-init
 loop-rest-init c =
     let some : 1 ≤ length c.args.file.now = search rules in
     let version : get_or c.args.file.now 0 0 ≡ 1 = search rules in
-    records_begun c.args.file.now (tables_job c.new-tables.result) some version c.if-file-le-LONGEST-FILE.true c.new-tables.ensures
+    records_begun c.args.file.now (tables_job c.new-tables.result) some version c.if-file-le-LONGEST_FILE.true c.new-tables.ensures
 
 pub returns-in-Err : goal.returns-in-Err
 returns-in-Err c =
@@ -28,7 +28,7 @@ loop-rest-preserved c =
     let far : length c.loop-rest.rest.now < length c.args.file.now = c.loop-rest.invariant.1 in (
       record_taken old (length c.args.file.now - length c.loop-rest.rest.now) c.loop-rest.rest.now (c.in-Some.body, c.in-Some.after)
           (tables_job c.add-record.new.tables) (length c.args.file.now - length c.in-Some.after.now) c.in-Some.ensures
-          (was_accepted old (with_record old c.in-Some.body.now) (tables_job c.add-record.new.tables) c.in-default-add-record.ensures) (omega arith)
+          (was_accepted old (with_record old c.in-Some.body.now) (tables_job c.add-record.new.tables) c.in_default-add_record.ensures) (omega arith)
           ∙ c.loop-rest.invariant.0,
       omega arith,
     )

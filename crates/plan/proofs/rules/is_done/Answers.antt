@@ -5,8 +5,8 @@ use Rattle.job.specs.Held.{job_of}
 use Rattle.plan.proofs.Standing.{stands_same}
 use Rattle.plan.proofs.rules.is_done.Goals as goal
 
-pub returns-in-default : goal.returns-in-default
-returns-in-default c = (λ _ q t w. absurd (c.in-default.ensures q t w), λ _. refl)
+pub returns-in_default : goal.returns-in_default
+returns-in_default c = (λ _ q t w. absurd (c.in_default.ensures q t w), λ _. refl)
 
 pub returns : goal.returns
 returns c = (

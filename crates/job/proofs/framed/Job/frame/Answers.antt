@@ -8,8 +8,8 @@ use Rattle.job.proofs.Questions.{row_of, frame_told}
 use Rattle.rules.proofs.Validity.{valid_out}
 use Rattle.job.proofs.framed.Job.frame.Goals as goal
 
-pub overflow-cast-result : goal.overflow-cast-result
-overflow-cast-result c =
+pub overflow_cast-result : goal.overflow_cast-result
+overflow_cast-result c =
     let j : Job = job_of c.args.self.now in
     let held = ap length c.operations.ensures in
     let small = earliest_small j (valid_out c.args.self.now.tables.valid) c.args.number c.args.number (omega arith) (omega arith) (omega arith) in

@@ -7,19 +7,19 @@ use Rattle.rules.proofs.Outcomes.{became_wanted, stayed_refused}
 use Rattle.rules.proofs.Reading.{files_are_read}
 use Rattle.job.proofs.framed.Job.load.Goals as goal
 
-pub returns-in-err-tables : goal.returns-in-err-tables
-returns-in-err-tables c =
-    let p = err_from_is_err_and c.from-residual.result c.from-residual.ensures.1 in
+pub returns-in_err-tables : goal.returns-in_err-tables
+returns-in_err-tables c =
+    let p = err_from_is_err_and c.from_residual.result c.from_residual.ensures.1 in
     record {
-      exact = rw (p.1, p.2) (stayed_refused (job_of c.args.self.now) (loaded c.args.file.now) _ c.in-err-tables.ensures);
+      exact = rw (p.1, p.2) (stayed_refused (job_of c.args.self.now) (loaded c.args.file.now) _ c.in_err-tables.ensures);
       read = files_are_read c.args.file.now;
-      stands-for = files_stand_for_edits;
+      stands_for = files_stand_for_edits;
     }
 
 pub returns : goal.returns
 returns c =
     record {
-      exact = became_wanted (job_of c.args.self.now) (loaded c.args.file.now) (tables_job c.in-ok-tables.tables) (job_of c.of.result) c.in-ok-tables.ensures c.of.ensures;
+      exact = became_wanted (job_of c.args.self.now) (loaded c.args.file.now) (tables_job c.in_ok-tables.tables) (job_of c.of.result) c.in_ok-tables.ensures c.of.ensures;
       read = files_are_read c.args.file.now;
-      stands-for = files_stand_for_edits;
+      stands_for = files_stand_for_edits;
     }

@@ -7,29 +7,28 @@ use Rattle.tables.specs.Held.{tables_job}
 use Rattle.tables.specs.Tables.{filled}
 use Rattle.tables.proofs.tables.Tables.add_operation.Goals as goal
 
-pub returns-then-not-kind-held : goal.returns-then-not-kind-held
-returns-then-not-kind-held c =
-    kind_not_held (tables_job c.args.self.now) c.args.operation (omega (arith, ap length c.as-slice.ensures)) (sym c.if-not-kind-held.ensures)
+pub returns-then-not-kind_held : goal.returns-then-not-kind_held
+returns-then-not-kind_held c =
+    kind_not_held (tables_job c.args.self.now) c.args.operation (omega (arith, ap length c.as_slice.ensures)) (sym c.if-not-kind_held.ensures)
 
-pub returns-then-not-operand-held : goal.returns-then-not-operand-held
-returns-then-not-operand-held c =
-    operand_not_held (tables_job c.args.self.now) c.args.operation (omega (arith, ap length c.as-slice.ensures)) (sym c.if-not-kind-held.ensures)
-    (and_left _ _ (sym c.if-not-operand-held.ensures))
+pub returns-then-not-operand_held : goal.returns-then-not-operand_held
+returns-then-not-operand_held c =
+    operand_not_held (tables_job c.args.self.now) c.args.operation (omega (arith, ap length c.as_slice.ensures)) (sym c.if-not-kind_held.ensures)
+    (and_left _ _ (sym c.if-not-operand_held.ensures))
 
-pub returns-then-not-operand-held-2 : goal.returns-then-not-operand-held-2
-returns-then-not-operand-held-2 c =
-    operand_not_held (tables_job c.args.self.now) c.args.operation (omega (arith, ap length c.as-slice.ensures)) (sym c.if-not-kind-held.ensures)
-    (and_right _ _ (sym c.if-not-operand-held-2.ensures))
+pub returns-then-not-operand_held-2 : goal.returns-then-not-operand_held-2
+returns-then-not-operand_held-2 c =
+    operand_not_held (tables_job c.args.self.now) c.args.operation (omega (arith, ap length c.as_slice.ensures)) (sym c.if-not-kind_held.ensures)
+    (and_right _ _ (sym c.if-not-operand_held-2.ensures))
 
-pub invariant-of-self : goal.invariant-of-self
-invariant-of-self c = (
-  ∣ operation_pushed (tables_job c.args.self.now) c.args.operation (filled c.push.new.self) (valid_out c.args.self.now.valid)
-      (omega (arith, ap length c.as-slice.ensures)) (sym c.if-not-kind-held.ensures) (sym c.if-not-operand-held.ensures)
-      (sym c.if-not-operand-held-2.ensures) c.push.ensures ∣₁,
-  tt,
-)
+pub invariant_of-self : goal.invariant_of-self
+invariant_of-self c = record {
+  valid = ∣ operation_pushed (tables_job c.args.self.now) c.args.operation (filled c.push.new.self) (valid_out c.args.self.now.valid)
+      (omega (arith, ap length c.as_slice.ensures)) (sym c.if-not-kind_held.ensures) (sym c.if-not-operand_held.ensures)
+      (sym c.if-not-operand_held-2.ensures) c.push.ensures ∣₁;
+}
 
 pub returns : goal.returns
 returns c =
-    operation_taken (tables_job c.args.self.now) c.args.operation (omega (arith, ap length c.as-slice.ensures)) (sym c.if-not-kind-held.ensures)
-    (sym c.if-not-operand-held.ensures) (sym c.if-not-operand-held-2.ensures) (filled c.push.new.self) c.push.ensures
+    operation_taken (tables_job c.args.self.now) c.args.operation (omega (arith, ap length c.as_slice.ensures)) (sym c.if-not-kind_held.ensures)
+    (sym c.if-not-operand_held.ensures) (sym c.if-not-operand_held-2.ensures) (filled c.push.new.self) c.push.ensures

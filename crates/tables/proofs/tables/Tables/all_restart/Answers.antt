@@ -12,21 +12,21 @@ from_here ks rows i k e is h =
     let P : List Kind → Type 0 = λ xs. drop i xs ≡ k ∷ drop (i + 1) xs in
     subst P e (drop_more rows i k h ∙ ap (λ x. x ∷ drop (i + 1) rows) (sym is))
 
-pub returns-then-not-restarts-within : goal.returns-then-not-restarts-within
-returns-then-not-restarts-within c =
+pub returns-then-not-restarts_within : goal.returns-then-not-restarts_within
+returns-then-not-restarts_within c =
     let ks : List Kind = (tables_job c.args.self.now).kinds in
-    sym (all_restart_stopped c.args.latency c.kind-item.result (drop (c.loop-kind.kind-index + 1) ks) (sym c.if-not-restarts-within.ensures))
-    ∙ ap (all_restart c.args.latency) (sym (from_here ks c.as-slice-kind-items.result.now c.loop-kind.kind-index c.kind-item.result c.as-slice-kind-items.ensures c.kind-item.is c.loop-kind-test.true))
+    sym (all_restart_stopped c.args.latency c.kind-item.result (drop (c.loop-kind.kind-index + 1) ks) (sym c.if-not-restarts_within.ensures))
+    ∙ ap (all_restart c.args.latency) (sym (from_here ks c.as_slice-kind-items.result.now c.loop-kind.kind-index c.kind-item.result c.as_slice-kind-items.ensures c.kind-item.is c.loop-kind-test.true))
     ∙ c.loop-kind.invariant
 
 pub loop-kind-preserved : goal.loop-kind-preserved
 loop-kind-preserved c =
     let ks : List Kind = (tables_job c.args.self.now).kinds in
-    sym (all_restart_past c.args.latency c.kind-item.result (drop (c.loop-kind.kind-index + 1) ks) (sym c.if-not-restarts-within.ensures))
-    ∙ ap (all_restart c.args.latency) (sym (from_here ks c.as-slice-kind-items.result.now c.loop-kind.kind-index c.kind-item.result c.as-slice-kind-items.ensures c.kind-item.is c.loop-kind-test.true))
+    sym (all_restart_past c.args.latency c.kind-item.result (drop (c.loop-kind.kind-index + 1) ks) (sym c.if-not-restarts_within.ensures))
+    ∙ ap (all_restart c.args.latency) (sym (from_here ks c.as_slice-kind-items.result.now c.loop-kind.kind-index c.kind-item.result c.as_slice-kind-items.ensures c.kind-item.is c.loop-kind-test.true))
     ∙ c.loop-kind.invariant
 
 pub returns : goal.returns
 returns c =
     let ks : List Kind = (tables_job c.args.self.now).kinds in
-    sym (ap (all_restart c.args.latency) (drop_all c.loop-kind.kind-index ks (omega (arith, ap length c.as-slice-kind-items.ensures)))) ∙ c.loop-kind.invariant
+    sym (ap (all_restart c.args.latency) (drop_all c.loop-kind.kind-index ks (omega (arith, ap length c.as_slice-kind-items.ensures)))) ∙ c.loop-kind.invariant

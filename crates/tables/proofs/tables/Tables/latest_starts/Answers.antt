@@ -10,19 +10,19 @@ use Rattle.tables.proofs.tables.Tables.latest_starts.Goals as goal
 
 pub loop-i-init : goal.loop-i-init
 loop-i-init c =
-    let rows : length c.as-slice-i.result.now ≡ length (tables_job c.args.self.now).operations = ap length c.as-slice-i.ensures in
-    (refl, known_none (tables_job c.args.self.now) _ (length c.as-slice-i.result.now) (omega arith), spare_from (pos 0) (length (tables_job c.args.self.now).operations))
+    let rows : length c.as_slice-i.result.now ≡ length (tables_job c.args.self.now).operations = ap length c.as_slice-i.ensures in
+    (refl, known_none (tables_job c.args.self.now) _ (length c.as_slice-i.result.now) (omega arith), spare_from (pos 0) (length (tables_job c.args.self.now).operations))
 
-pub latest-start-requires : goal.latest-start-requires
-latest-start-requires c =
-    let rows : length c.as-slice-i.result.now ≡ length (tables_job c.args.self.now).operations = ap length c.as-slice-i.ensures in
+pub latest_start-requires : goal.latest_start-requires
+latest_start-requires c =
+    let rows : length c.as_slice-i.result.now ≡ length (tables_job c.args.self.now).operations = ap length c.as_slice-i.ensures in
     let place : c.loop-i.i ≡ c.loop-i.i - 1 + 1 = omega arith in
     let P : ℕ → Type 0 = Known (tables_job c.args.self.now) c.loop-i.starts in
     record { held = omega arith; later = known_later (tables_job c.args.self.now) c.loop-i.starts (c.loop-i.i - 1) (subst P place c.loop-i.invariant.1) }
 
 pub loop-i-preserved : goal.loop-i-preserved
 loop-i-preserved c =
-    let rows : length c.as-slice-i.result.now ≡ length (tables_job c.args.self.now).operations = ap length c.as-slice-i.ensures in
+    let rows : length c.as_slice-i.result.now ≡ length (tables_job c.args.self.now).operations = ap length c.as_slice-i.ensures in
     let few = (valid_out c.args.self.now.valid).few_operations in
     let place : c.loop-i.i ≡ c.loop-i.i - 1 + 1 = omega arith in
     let P : ℕ → Type 0 = Known (tables_job c.args.self.now) c.loop-i.starts in

@@ -2,6 +2,6 @@ use Rattle.std.proofs.Common.{refl, arith}
 use Rattle.std.proofs.lemmas.List.{get_or-replicate}
 use Rattle.windows.proofs.stays.Stays.new.Goals as goal
 
-pub invariant-of-result-2 : goal.invariant-of-result-2
-invariant-of-result-2 c =
+pub invariant_of-result-2 : goal.invariant_of-result-2
+invariant_of-result-2 c =
     (refl, (refl, (refl, (omega arith, ((λ s low. get_or-replicate 65 s 0 0 (omega arith)), ((λ i low. absurd (omega arith)), tt))))))

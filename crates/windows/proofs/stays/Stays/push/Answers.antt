@@ -3,8 +3,8 @@ use Rattle.std.proofs.lemmas.List.{length-set, length-take-le, take_more_set}
 use Rattle.windows.proofs.Chains.{starts_put, links_put}
 use Rattle.windows.proofs.stays.Stays.push.Goals as goal
 
-pub invariant-of-self : goal.invariant-of-self
-invariant-of-self c =
+pub invariant_of-self : goal.invariant_of-self
+invariant_of-self c =
     let stays = c.args.self.now in
     let few : length (take stays.count stays.items) ≡ stays.count = length-take-le stays.count stays.items (omega arith) in
     let place : stays.count < length stays.items = omega arith in (

@@ -18,8 +18,8 @@ loop-begin-preserved-then-stays-begin-eq0 c =
     λ e. starting_last s e stays.items stays.count (omega arith) ∙ ap (λ n. starting s e (take n stays.items)) last in
     done_skipped _ _ _ _ _ c.loop-begin-test.true _ _ c.loop-begin.invariant c.requires c.loop-begin.auto.begin none
 
-pub raise-row-most-requires : goal.raise-row-most-requires
-raise-row-most-requires c =
+pub raise_row-most-requires : goal.raise_row-most-requires
+raise_row-most-requires c =
     let stays = c.args.stays.now in
     let tally = c.take-in.new.self in
     let s = c.loop-begin.begin - 1 in
@@ -35,7 +35,7 @@ raise-row-most-requires c =
 pub loop-begin-preserved : goal.loop-begin-preserved
 loop-begin-preserved c =
     done_raised _ _ _ _ _ c.loop-begin-test.true _ _ c.loop-begin.invariant c.args.self.few_steps
-    c.take-in.new.self.ends c.take-in.ensures c.raise-row-most.result c.raise-row-most.ensures
+    c.take-in.new.self.ends c.take-in.ensures c.raise_row-most.result c.raise_row-most.ensures
 
 pub returns : goal.returns
 returns c = done_all _ _ _ _ _ _ _ c.loop-begin.invariant c.loop-begin-test.false

@@ -5,8 +5,8 @@ use Rattle.windows.proofs.Counting.{sum_last}
 use Rattle.windows.proofs.Greatest.{greatest_turn, greatest_end}
 use Rattle.windows.proofs.timing.Timing.raise_row.Goals as goal
 
-pub overflow-sub-count : goal.overflow-sub-count
-overflow-sub-count c =
+pub overflow_sub-count : goal.overflow_sub-count
+overflow_sub-count c =
     omega (arith, c.loop-end.invariant.1, sum_last c.args.tally.now.ends c.loop-end.end (omega arith) (omega arith))
 
 pub loop-end-preserved : goal.loop-end-preserved
