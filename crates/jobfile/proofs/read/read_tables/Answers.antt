@@ -18,7 +18,7 @@ returns-in-Err c =
     let old : Job = tables_job c.loop-rest.tables in
     record_at_fault old (length c.args.file.now - length c.loop-rest.rest.now) c.loop-rest.rest.now (c.in-Some.body, c.in-Some.after)
     (number c.in-Err.reason) c.in-Some.ensures
-    (was_refused old (with_record old c.in-Some.body.now) (tables_job c.add-record.new.tables) (number c.in-Err.reason) c.in-Err.ensures)
+    (was_refused old (with_record old c.in-Some.body.now) (tables_job c.add_record.new.tables) (number c.in-Err.reason) c.in-Err.ensures)
     ∙ c.loop-rest.invariant.0
 
 pub loop-rest-preserved : goal.loop-rest-preserved
@@ -27,8 +27,8 @@ loop-rest-preserved c =
     let less : length c.in-Some.after.now < length c.loop-rest.rest.now = shorter old 0 c.loop-rest.rest.now (c.in-Some.body, c.in-Some.after) c.in-Some.ensures in
     let far : length c.loop-rest.rest.now < length c.args.file.now = c.loop-rest.invariant.1 in (
       record_taken old (length c.args.file.now - length c.loop-rest.rest.now) c.loop-rest.rest.now (c.in-Some.body, c.in-Some.after)
-          (tables_job c.add-record.new.tables) (length c.args.file.now - length c.in-Some.after.now) c.in-Some.ensures
-          (was_accepted old (with_record old c.in-Some.body.now) (tables_job c.add-record.new.tables) c.in_default-add_record.ensures) (omega arith)
+          (tables_job c.add_record.new.tables) (length c.args.file.now - length c.in-Some.after.now) c.in-Some.ensures
+          (was_accepted old (with_record old c.in-Some.body.now) (tables_job c.add_record.new.tables) c.in_default-add_record.ensures) (omega arith)
           ∙ c.loop-rest.invariant.0,
       omega arith,
     )
