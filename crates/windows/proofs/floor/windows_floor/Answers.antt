@@ -8,7 +8,7 @@ use Rattle.windows.proofs.floor.windows_floor.Goals as goal
 use Rattle.windows.proofs.floor.windows_floor.Goals.{else-timing-gt0-via-then-timing-gt0+else-timing, else-timing-gt0-via-else-timing-gt0}
 
 pub invariant_of-timing : goal.invariant_of-timing
-invariant_of-timing c = (omega (arith, c.steps.ensures, (valid_out c.args.job.now.tables.valid).few_steps), tt)
+invariant_of-timing c = record { few_steps = omega (arith, c.steps.ensures, (valid_out c.args.job.now.tables.valid).few_steps) }
 
 pub returns-then-timing : goal.returns-then-timing
 returns-then-timing c =

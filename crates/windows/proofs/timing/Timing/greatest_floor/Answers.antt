@@ -21,21 +21,21 @@ loop-begin-preserved-then-stays-begin-eq0 c =
 pub raise_row-most-requires : goal.raise_row-most-requires
 raise_row-most-requires c =
     let stays = c.args.stays.now in
-    let tally = c.take-in.new.self in
+    let tally = c.take_in.new.self in
     let s = c.loop-begin.begin - 1 in
     record {
       within = (omega arith, omega arith);
       ended =
           tally.added
-          ∙ sum_all s tally.ends (listed stays) tally.whole c.take-in.ensures
+          ∙ sum_all s tally.ends (listed stays) tally.whole c.take_in.ensures
           ∙ held_all c.args.self.steps (listed stays) c.requires s c.args.self.few_steps
-          ∙ sym (c.take-in.ensures c.args.self.steps c.args.self.few_steps);
+          ∙ sym (c.take_in.ensures c.args.self.steps c.args.self.few_steps);
     }
 
 pub loop-begin-preserved : goal.loop-begin-preserved
 loop-begin-preserved c =
     done_raised _ _ _ _ _ c.loop-begin-test.true _ _ c.loop-begin.invariant c.args.self.few_steps
-    c.take-in.new.self.ends c.take-in.ensures c.raise_row-most.result c.raise_row-most.ensures
+    c.take_in.new.self.ends c.take_in.ensures c.raise_row-most.result c.raise_row-most.ensures
 
 pub returns : goal.returns
 returns c = done_all _ _ _ _ _ _ _ c.loop-begin.invariant c.loop-begin-test.false
