@@ -16,35 +16,46 @@ fn job_of(duration: u8, busy: u8, steps: u8, operands: &[(u8, u8)]) -> Result<Jo
 }
 
 // The operations from the first on have these frames, and there is none behind them.
-fn framed(rt: &impl Abort, job: &Job, frames: &[(i16, i16)]) -> Result<(), Fail> {
+fn framed(rt: &impl Abort, job: &Job, frames: &[(i16, i16)], what: &'static str) {
     let mut number = 1u8;
     for frame in frames {
-        assert_eq!(rt; job.frame(number).ok(), Some(*frame));
+        assert_eq!(rt; job.frame(number).ok(), Some(*frame), "{}", what);
         number = number.saturating_add(1);
     }
-    assert_eq!(rt; job.frame(number).ok(), None);
-    assert_eq!(rt; job.frame(0).ok(), None);
-    Ok(())
+    assert_eq!(rt; job.frame(number).ok(), None, "{}", what);
+    assert_eq!(rt; job.frame(0).ok(), None, "{}", what);
 }
 
 #[test]
 fn small_jobs(rt: HostRuntime) -> Result<(), Fail> {
     let short_of_steps = job_of(2, 2, 1, &[(0, 0), (1, 0)])?;
-    framed(&rt, &short_of_steps, &[(1, -2), (3, 0)])?;
+    framed(&rt, &short_of_steps, &[(1, -2), (3, 0)], "short of steps");
     let busy_below_duration = job_of(3, 1, 9, &[(0, 0), (0, 1)])?;
-    framed(&rt, &busy_below_duration, &[(1, 4), (4, 7)])?;
+    framed(
+        &rt,
+        &busy_below_duration,
+        &[(1, 4), (4, 7)],
+        "busy for less than its duration",
+    );
     let several_users = job_of(2, 2, 10, &[(0, 0), (1, 0), (2, 1), (0, 1)])?;
-    framed(&rt, &several_users, &[(1, 5), (3, 7), (5, 9), (3, 9)])
+    framed(
+        &rt,
+        &several_users,
+        &[(1, 5), (3, 7), (5, 9), (3, 9)],
+        "several users",
+    );
+    Ok(())
 }
 
 #[test]
 fn frames_follow_the_limits(rt: HostRuntime) -> Result<(), Fail> {
     let mut job = job_of(2, 2, 1, &[(0, 0)])?;
-    framed(&rt, &job, &[(1, 0)])?;
+    framed(&rt, &job, &[(1, 0)], "one step");
     job.set_limits(6, 4)?;
-    framed(&rt, &job, &[(1, 5)])?;
+    framed(&rt, &job, &[(1, 5)], "more steps");
     assert!(rt; job.set_limits(6, 1).is_err());
-    framed(&rt, &job, &[(1, 5)]).note("a refused change leaves the frame")
+    framed(&rt, &job, &[(1, 5)], "a refused change leaves the frame");
+    Ok(())
 }
 
 #[test]
