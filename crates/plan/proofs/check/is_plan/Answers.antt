@@ -1,6 +1,6 @@
-use Rattle.std.proofs.Common.{◌≡◌, ◌+◌, ◌<◌, length, sym, refl, ap, ◌∙◌, arith}
+use Rattle.std.proofs.Common.{◌+◌, length, sym, refl, ap, ◌∙◌, arith}
 use Rattle.job.specs.Held.{job_of}
-use Rattle.plan.specs.Plans.{Plan, Stands, Allowed, Keeps}
+use Rattle.plan.specs.Plans.{Allowed, Keeps}
 use Rattle.plan.proofs.Keeping.{false_true, refused}
 use Rattle.plan.proofs.Standing.{stands_at, stands_within, stands_more}
 use Rattle.plan.proofs.check.is_plan.Goals as goal

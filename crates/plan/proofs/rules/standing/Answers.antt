@@ -1,4 +1,4 @@
-use Rattle.std.proofs.Common.{◌≡◌, arith}
+use Rattle.std.proofs.Common.{arith}
 use Rattle.job.specs.Held.{job_of}
 use Rattle.plan.proofs.Standing.{stands_read, stands_none}
 use Rattle.plan.proofs.rules.standing.Goals as goal
