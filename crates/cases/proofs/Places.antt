@@ -1,13 +1,12 @@
 -- Places, from the rules.
-use Rattle.std.proofs.Common.{◌≡◌, ℕ, zero, suc, ◌≤◌, List, [], ◌∷◌, length, Some, refl, ap, subst, arith, length-append}
+use Rattle.std.proofs.Common.{◌≡◌, ℕ, zero, suc, List, [], ◌∷◌, Some, refl, subst, arith}
 use Rattle.std.proofs.lemmas.Int.{ints}
 use Rattle.rules.specs.declared.operation.Operation.{Operation}
-use Rattle.rules.specs.Jobs.{Job, Valid, numbered}
+use Rattle.rules.specs.Jobs.{numbered}
 use Rattle.rules.proofs.Numbered.{none_some, some_same}
 use Rattle.plan.specs.declared.slot.Slot.{Slot}
-use Rattle.plan.specs.Order.{Begins}
 use Rattle.plan.specs.Places.{Place, Choosable, Inside}
-use Rattle.plan.specs.Plans.{Plan, Stands}
+use Rattle.plan.specs.Plans.{Stands}
 use Rattle.bound.specs.Inside.{plan_place}
 use Rattle.cases.specs.Floors.{at}
 use Rattle.cases.specs.Places.{chained, PlacesTold}

@@ -1,7 +1,7 @@
 -- The floors of the bounds at places of some small jobs.
 use Rattle.std.specs.Prelude.{◌≡◌, ℕ, List, [], ◌∷◌}
 use Rattle.rules.specs.Changes.{Change, after}
-use Rattle.rules.specs.Jobs.{Job, fresh}
+use Rattle.rules.specs.Jobs.{fresh}
 use Rattle.plan.specs.declared.slot.Slot.{Slot}
 use Rattle.plan.specs.Units.{units}
 use Rattle.windows.specs.Windows.{windows}

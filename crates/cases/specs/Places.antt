@@ -1,5 +1,5 @@
 -- What is a place, and what is not.
-use Rattle.std.specs.Prelude.{ℕ, ◌≤◌, List, [], ◌∷◌, length}
+use Rattle.std.specs.Prelude.{◌≤◌, List, [], ◌∷◌, length}
 use Rattle.rules.specs.Changes.{after}
 use Rattle.rules.specs.Jobs.{Job, Valid, fresh}
 use Rattle.plan.specs.declared.slot.Slot.{Slot}
