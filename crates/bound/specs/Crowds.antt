@@ -1,7 +1,7 @@
 -- Slots of one kind, each busy for r steps, that do not clash need many units.
 use Rattle.std.specs.Prelude.{◌≡◌, ℕ, ◌+◌, ◌-◌, ◌*◌, ◌%◌, ◌<◌, ◌≤◌, List, length, slice_index_or}
 use Rattle.std.proofs.Common.{sym, ap, ◌∙◌, inl, inr, ⊎_elim, arith, mod-lt}
-use Rattle.std.specs.List.{AllByRecursion as All}
+use Rattle.std.specs.List.{AllByRecursion}
 use Rattle.std.proofs.ByRecursion.{All-get_or}
 use Rattle.std.proofs.lemmas.Bool.{cases_order}
 use Rattle.plan.specs.declared.slot.Slot.{Slot}
@@ -27,7 +27,7 @@ remainders_folded l s e some = record { below = λ x h h'. mod-lt x some; same =
 pub record Crowd (l r u : ℕ) (xs : List Slot) : Type 0 where
   pub busy : 1 ≤ r
   pub restarts : 0 < l → r ≤ l
-  pub units : All (λ x. (1 ≤ x.unit) × (x.unit ≤ u)) xs
+  pub units : AllByRecursion (λ x. (1 ≤ x.unit) × (x.unit ≤ u)) xs
   pub apart : Pairs (λ x y. x.unit ≡ y.unit → Meet l r x.start y.start → ⊥) xs
 
 -- a slot whose busy steps lie within steps s to e
@@ -73,7 +73,7 @@ module _ {l r u : ℕ} {xs : List Slot} (crowd : Crowd l r u xs) where
       same
 
   -- steps that go into w cells have room for w busy steps on each unit
-  pub crowd_fits : {s e w : ℕ} {cell : ℕ → ℕ} → All (Within r s e) xs → Folded l s e w cell → length xs * r ≤ w * u
+  pub crowd_fits : {s e w : ℕ} {cell : ℕ → ℕ} → AllByRecursion (Within r s e) xs → Folded l s e w cell → length xs * r ≤ w * u
   unfolding slot
   crowd_fits {s} {e} {w} {cell} inside fold =
       packed {row = λ c. (slot c).unit - 1} {cell = λ c i. cell ((slot c).start + i)} (record {

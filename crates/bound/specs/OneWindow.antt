@@ -2,7 +2,7 @@
 use Rattle.std.specs.Prelude.{◌≡◌, ℕ, zero, suc, ◌+◌, ◌-◌, ◌*◌, ◌<◌, ◌≤◌, Bool, true, List, length, Some}
 use Rattle.std.proofs.Common.{zero-le, sym, ◌∙◌, subst, arith, mul-le-mul_right, le_trans}
 use Rattle.std.proofs.Math.Nat.{div-zero}
-use Rattle.std.specs.List.{AllByRecursion as All}
+use Rattle.std.specs.List.{AllByRecursion}
 use Rattle.std.proofs.lemmas.Nat.{div_below}
 use Rattle.std.proofs.lemmas.Bool.{eqb-true}
 use Rattle.std.proofs.lemmas.Bool.Decides.{nat_tests}
@@ -71,7 +71,7 @@ module _ {j : Job} {q : List Slot} (valid : Valid j) (plan : Plan j q) (k : ℕ)
     in_crowd : Crowd j.latency r (units j q k) (selected (in_window k r s e) j.operations q)
     in_crowd = crowd (in_window k r s e) (λ o t h. (of_window o t h).0)
 
-    inside : All (Within r s e) (selected (in_window k r s e) j.operations q)
+    inside : AllByRecursion (Within r s e) (selected (in_window k r s e) j.operations q)
     inside = all_selected (in_window k r s e) (Within r s e) j.operations q (λ i o t w h. (of_window o t h).1)
 
     -- the busy steps in a window find room on the units

@@ -1,7 +1,7 @@
 -- The slots of the operations that pass a test.
 use Rattle.std.specs.Prelude.{◌≡◌, ℕ, zero, suc, ◌<◌, Bool, true, cond, List, [], ◌∷◌, length, slice_index_or}
 use Rattle.std.proofs.Common.{arith}
-use Rattle.std.specs.List.{AllByRecursion as All}
+use Rattle.std.specs.List.{AllByRecursion}
 use Rattle.std.proofs.lemmas.Bool.{cond_both}
 use Rattle.std.proofs.ByRecursion.{All-get_or}
 use Rattle.rules.specs.declared.operation.Operation.{Operation}
@@ -11,7 +11,7 @@ use Rattle.bound.specs.At.{At, at_here, at_later}
 -- of each two elements, the earlier in the list first
 abbrev pub Pairs : {X : Type 0} → (X → X → Type 0) → List X → Type 0
 Pairs R [] = Unit {0}
-Pairs R (x ∷ xs) = All (R x) xs × Pairs R xs
+Pairs R (x ∷ xs) = AllByRecursion (R x) xs × Pairs R xs
 
 pub pairs_getD : {X : Type 0} (R : X → X → Type 0) (xs : List X) (a b : ℕ) (d : X) → Pairs R xs → a < b → b < length xs → R (slice_index_or xs a d) (slice_index_or xs b d)
 pairs_getD R [] a b d h l m = absurd (omega arith)
@@ -26,12 +26,12 @@ module _ (test : Operation → Slot → Bool) where
   selected (o ∷ os) (s ∷ p) = cond (test o s) (s ∷ selected os p) (selected os p)
 
   pub all_selected : (P : Slot → Type 0) (os : List Operation) (p : List Slot)
-      → ((i : ℕ) (o : Operation) (s : Slot) → At os p i o s → test o s ≡ true → P s) → All P (selected os p)
+      → ((i : ℕ) (o : Operation) (s : Slot) → At os p i o s → test o s ≡ true → P s) → AllByRecursion P (selected os p)
   all_selected P [] p h = tt
   all_selected P (o ∷ os) [] h = tt
   all_selected P (o ∷ os) (s ∷ p) h =
-      let rest : All P (selected os p) = all_selected P os p (λ i q t w. h (suc i) q t (at_later w)) in
-      cond_both (test o s) (s ∷ selected os p) (selected os p) (All P) (λ e. (h 0 o s at_here e, rest)) (λ _. rest)
+      let rest : AllByRecursion P (selected os p) = all_selected P os p (λ i q t w. h (suc i) q t (at_later w)) in
+      cond_both (test o s) (s ∷ selected os p) (selected os p) (AllByRecursion P) (λ e. (h 0 o s at_here e, rest)) (λ _. rest)
 
   pub pairs_selected : (R : Slot → Slot → Type 0) (os : List Operation) (p : List Slot)
       → ((i k : ℕ) (o q : Operation) (s t : Slot) → i < k → At os p i o s → At os p k q t → test o s ≡ true → test q t ≡ true → R s t)

@@ -4,9 +4,9 @@
 mod bound;
 mod greater;
 mod placed;
-mod windows;
+mod windows_bound;
 
 pub use bound::Bound;
 pub use greater::Greater;
 pub use placed::Placed;
-pub use windows::Windows;
+pub use windows_bound::Windows;

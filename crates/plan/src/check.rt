@@ -3,7 +3,7 @@ ghost use Rattle.std.specs.Prelude.{Decides};
 ghost use Rattle.job.specs.Held.{job_of};
 ghost use Rattle.plan.specs.Plans.{Allowed, Plan};
 
-use crate::rules::keeps_rules;
+use crate::operation_rules::keeps_rules;
 use crate::slot::Slot;
 use job::{Job, Operation};
 

@@ -3,6 +3,6 @@
 
 pub mod check;
 pub mod clash;
-pub mod rules;
+pub mod operation_rules;
 pub mod slot;
 pub mod units;

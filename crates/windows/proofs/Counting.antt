@@ -1,6 +1,6 @@
 -- How many stays a window holds.
 use Rattle.std.proofs.Common.{◌≡◌, ℕ, zero, suc, ◌+◌, ◌-◌, ◌<◌, ◌≤◌, Bool, false, cond, ◌&&◌, eqb, ltb, leb, List, [], ◌∷◌, length, get_or, take, set, sum, count_by, sym, refl, ap, ◌∙◌, ap₂, arith}
-use Rattle.std.specs.List.{AllByRecursion as All}
+use Rattle.std.specs.List.{AllByRecursion}
 use Rattle.std.proofs.lemmas.List.{take_all}
 use Rattle.std.proofs.lemmas.List.Sums.{sum_by-cons, sum_by_more, count_by-le-length}
 use Rattle.std.proofs.lemmas.Bool.Decides.{nat_tests}
@@ -14,14 +14,14 @@ module _ {X : Type 0} (p q : X → Bool) where
   parts r split (x ∷ xs) =
       omega (arith, sum_by-cons (λ y. cond (p y) 1 0) x xs, sum_by-cons (λ y. cond (q y) 1 0) x xs, sum_by-cons (λ y. cond (r y) 1 0) x xs, split x, parts r split xs)
 
-  same_where : (P : X → Type 0) → ((x : X) → P x → p x ≡ q x) → (xs : List X) → All P xs → count_by p xs ≡ count_by q xs
+  same_where : (P : X → Type 0) → ((x : X) → P x → p x ≡ q x) → (xs : List X) → AllByRecursion P xs → count_by p xs ≡ count_by q xs
   same_where P same [] all = refl
   same_where P same (x ∷ xs) all =
       sum_by-cons (λ y. cond (p y) 1 0) x xs
       ∙ ap₂ (λ b n. cond b 1 0 + n) (same x all.0) (same_where P same xs all.1)
       ∙ sym (sum_by-cons (λ y. cond (q y) 1 0) x xs)
 
-none_where : {X : Type 0} (p : X → Bool) (P : X → Type 0) → ((x : X) → P x → p x ≡ false) → (xs : List X) → All P xs → count_by p xs ≡ 0
+none_where : {X : Type 0} (p : X → Bool) (P : X → Type 0) → ((x : X) → P x → p x ≡ false) → (xs : List X) → AllByRecursion P xs → count_by p xs ≡ 0
 none_where p P none [] all = refl
 none_where p P none (x ∷ xs) all =
     sum_by-cons (λ y. cond (p y) 1 0) x xs ∙ ap₂ (λ b n. cond b 1 0 + n) (none x all.0) (none_where p P none xs all.1)

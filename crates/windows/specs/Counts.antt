@@ -1,6 +1,6 @@
 -- Counts of the stays that a window holds.
 use Rattle.std.specs.Prelude.{◌≡◌, ℕ, ◌+◌, ◌-◌, ◌≤◌, Bool, false, ◌&&◌, List, take, Some, None, sum, count_by, Option, ◌==◌, nat_le}
-use Rattle.std.specs.List.{AllByRecursion as All}
+use Rattle.std.specs.List.{AllByRecursion}
 use Rattle.rules.specs.declared.operation.Operation.{Operation}
 use Rattle.windows.specs.declared.stay.Stay.{Stay}
 use Rattle.windows.specs.declared.stays.Stays.{Stays}
@@ -36,7 +36,7 @@ tallied_floor l r ends s e = window_floor l r (e + 1 - s) (sum (take (e + 1) end
 
 -- no stay begins or ends after step t
 abbrev pub Inside : ℕ → List Stay → Type 0
-Inside t ts = All (λ x. (x.begin ≤ t) × (x.end ≤ t)) ts
+Inside t ts = AllByRecursion (λ x. (x.begin ≤ t) × (x.end ≤ t)) ts
 
 -- in windows within steps 1 to t, a stay stands for an operation with the frame f that is busy for r steps; one that has no stay is kept within none
 abbrev pub Keeps : Frame → ℕ → ℕ → Option Stay → Type 0

@@ -3,7 +3,7 @@ use Rattle.std.proofs.lemmas.Bool.{leb-true, le-leb}
 use Rattle.rules.specs.Jobs.{duration_of}
 use Rattle.job.specs.Held.{job_of}
 use Rattle.plan.proofs.Standing.{stands_same}
-use Rattle.plan.proofs.rules.is_done.Goals as goal
+use Rattle.plan.proofs.operation_rules.is_done.Goals as goal
 
 pub returns-in_default : goal.returns-in_default
 returns-in_default c = (λ _ q t w. absurd (c.in_default.ensures q t w), λ _. refl)

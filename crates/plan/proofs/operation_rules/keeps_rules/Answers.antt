@@ -1,7 +1,7 @@
 use Rattle.std.proofs.Common.{refl}
 use Rattle.plan.proofs.Keeping.{refused, told_apart}
-use Rattle.plan.proofs.rules.keeps_rules.Goals as goal
-use Rattle.plan.proofs.rules.keeps_rules.Goals.{then-not-is_done-via-then-not-is_done, then-not-is_done-via-else-not-is_done+then-not-is_done-2}
+use Rattle.plan.proofs.operation_rules.keeps_rules.Goals as goal
+use Rattle.plan.proofs.operation_rules.keeps_rules.Goals.{then-not-is_done-via-then-not-is_done, then-not-is_done-via-else-not-is_done+then-not-is_done-2}
 
 pub returns-in_default : goal.returns-in_default
 returns-in_default c = (λ _ o s w. absurd (c.in_default.ensures o s w), λ _. refl)

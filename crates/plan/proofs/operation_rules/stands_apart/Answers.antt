@@ -4,7 +4,7 @@ use Rattle.job.specs.Held.{job_of}
 use Rattle.plan.specs.Plans.{Clash}
 use Rattle.plan.proofs.Keeping.{false_true}
 use Rattle.plan.proofs.Standing.{stands_at, stands_within, stands_more}
-use Rattle.plan.proofs.rules.stands_apart.Goals as goal
+use Rattle.plan.proofs.operation_rules.stands_apart.Goals as goal
 
 pub returns-then-clash : goal.returns-then-clash
 returns-then-clash c = (
