@@ -1,7 +1,7 @@
 //! Bounds: how many units of a kind every plan needs that begins with some slots.
 ghost use Rattle.std.specs.Prelude.{◌≡◌};
 ghost use Rattle.job.specs.Held.{job_of};
-ghost use Rattle.bound.specs.Bounds.{Floor, LawfulFloor};
+ghost use Rattle.floors.specs.Floors.{Floor, LawfulFloor};
 
 use job::Job;
 use plan::slot::Slot;

@@ -1,6 +1,6 @@
 //! The larger of two bounds.
-ghost use Rattle.bound.specs.Bounds.{greater};
-ghost use Rattle.std.proofs.Common.{rules};
+ghost use Rattle.floors.specs.Floors.{greater};
+ghost use Rattle.floors.proofs.Lawful.{greater_lawful};
 
 use crate::bound::Bound;
 use job::Job;
@@ -16,7 +16,7 @@ pub struct Greater<A, B> {
 impl<A: Bound, B: Bound> Bound for Greater<A, B> {
     ghost means = { λ g. greater (A.Bound.means g.first) (B.Bound.means g.second) };
 
-    ghost lawful = { Prim.search rules };
+    ghost lawful = { λ g. greater_lawful _ _ (A.Bound.lawful g.first) (B.Bound.lawful g.second) };
 
     fn floor(&self, job: &Job, placed: &[Slot], kind: u8) -> u16 {
         let first = self.first.floor(job, placed, kind);

@@ -1,6 +1,6 @@
 //! The bound that counts the units taken so far.
 ghost use Rattle.plan.specs.Units.{units};
-ghost use Rattle.bound.specs.Lawful.{placed_lawful};
+ghost use Rattle.floors.proofs.Lawful.{placed_lawful};
 
 use crate::bound::Bound;
 use job::Job;

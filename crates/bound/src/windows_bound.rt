@@ -1,6 +1,6 @@
 //! The bound by windows of steps.
 ghost use Rattle.windows.specs.Windows.{windows};
-ghost use Rattle.bound.specs.Lawful.{windows_lawful};
+ghost use Rattle.floors.proofs.Lawful.{windows_lawful};
 
 use crate::bound::Bound;
 use job::Job;

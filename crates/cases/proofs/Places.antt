@@ -7,7 +7,7 @@ use Rattle.rules.proofs.Numbered.{none_some, some_same}
 use Rattle.plan.specs.declared.slot.Slot.{Slot}
 use Rattle.plan.specs.Places.{Place, Choosable, Inside}
 use Rattle.plan.specs.Plans.{Stands}
-use Rattle.bound.specs.Inside.{plan_place}
+use Rattle.floors.proofs.Inside.{plan_place}
 use Rattle.cases.specs.Floors.{at}
 use Rattle.cases.specs.Places.{chained, PlacesTold}
 

@@ -7,8 +7,8 @@ use Rattle.rules.specs.Changes.{edit, after}
 use Rattle.rules.specs.Files.{figures}
 use Rattle.rules.specs.Jobs.{Job, fresh}
 use Rattle.plan.specs.declared.slot.Slot.{Slot}
-use Rattle.cost.specs.Costs.{Meaning, cost}
-use Rattle.cost.specs.Schemes.{by_area, by_rank, rank}
+use Rattle.schemes.specs.Costs.{Meaning, cost}
+use Rattle.schemes.specs.Schemes.{by_area, by_rank, rank}
 use Rattle.cases.specs.Calls.{row, limits}
 use Rattle.cases.specs.Floors.{at}
 

@@ -5,7 +5,7 @@ use Rattle.rules.specs.Jobs.{fresh}
 use Rattle.plan.specs.declared.slot.Slot.{Slot}
 use Rattle.plan.specs.Units.{units}
 use Rattle.windows.specs.Windows.{windows}
-use Rattle.bound.specs.Bounds.{Floor, greater}
+use Rattle.floors.specs.Floors.{Floor, greater}
 use Rattle.cases.specs.Calls.{kind, row, limits, times}
 
 -- a start and a unit

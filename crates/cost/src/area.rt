@@ -1,6 +1,6 @@
 //! The scheme that counts area alone.
-ghost use Rattle.cost.specs.Schemes.{by_area};
-ghost use Rattle.cost.specs.Lawful.{area_lawful};
+ghost use Rattle.schemes.specs.Schemes.{by_area};
+ghost use Rattle.schemes.proofs.Lawful.{area_lawful};
 
 use crate::ceiling::stop;
 use crate::scheme::Scheme;

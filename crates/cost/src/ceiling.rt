@@ -1,6 +1,6 @@
 //! Where prices and sums stop.
 ghost use Rattle.std.specs.Prelude.{◌≡◌};
-ghost use Rattle.cost.specs.Ceiling.{stopped};
+ghost use Rattle.schemes.specs.Ceiling.{stopped};
 
 pub(crate) const CEILING: u32 = 1_000_000_000;
 

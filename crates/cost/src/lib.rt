@@ -3,13 +3,12 @@
 
 mod area;
 mod ceiling;
-mod rank;
 mod ranked;
 mod scheme;
 mod total;
 
 pub use area::Area;
-pub use rank::Rank;
 pub use ranked::Ranked;
 pub use scheme::Scheme;
+pub use schemes::rank::Rank;
 pub use total::plan_cost;

@@ -1,12 +1,12 @@
 //! The scheme that counts area, and draw where areas are equal.
 ghost use Rattle.std.specs.Prelude.{◌≡◌};
-ghost use Rattle.cost.specs.Schemes.{rank, by_rank};
-ghost use Rattle.cost.specs.Lawful.{rank_lawful};
+ghost use Rattle.schemes.specs.Schemes.{rank, by_rank};
+ghost use Rattle.schemes.proofs.Lawful.{rank_lawful};
 
 use crate::ceiling::{CEILING, stop};
-use crate::rank::Rank;
 use crate::scheme::Scheme;
 use rules::kind::Kind;
+use schemes::rank::Rank;
 
 // An area and a draw, each stopped at the ceiling; where the area reaches it, the draw is at it too.
 fn rank_of(area: u64, draw: u64) -> Rank

@@ -1,6 +1,6 @@
 //! Schemes of cost: how units are priced, and costs added and compared.
 ghost use Rattle.std.specs.Prelude.{◌≡◌};
-ghost use Rattle.cost.specs.Costs.{Meaning, Lawful};
+ghost use Rattle.schemes.specs.Costs.{Meaning, Lawful};
 
 use rules::kind::Kind;
 

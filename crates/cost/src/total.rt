@@ -1,7 +1,7 @@
 //! The cost of a plan.
 ghost use Rattle.std.specs.Prelude.{◌≡◌};
 ghost use Rattle.job.specs.Held.{job_of};
-ghost use Rattle.cost.specs.Costs.{cost};
+ghost use Rattle.schemes.specs.Costs.{cost};
 
 use crate::scheme::Scheme;
 use job::Job;

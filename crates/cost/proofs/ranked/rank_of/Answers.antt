@@ -1,7 +1,7 @@
 use Rattle.std.proofs.Common.{arith, rules}
 use Rattle.std.proofs.lemmas.Bool.Decides.{nat_tests}
-use Rattle.cost.specs.Schemes.{rank}
-use Rattle.cost.specs.Ranks.{same_rank}
+use Rattle.schemes.specs.Schemes.{rank}
+use Rattle.schemes.proofs.Ranks.{same_rank}
 use Rattle.cost.proofs.ranked.rank_of.Goals as goal
 
 pub returns : goal.returns

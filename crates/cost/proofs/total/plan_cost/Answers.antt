@@ -2,8 +2,8 @@ use Rattle.std.proofs.Common.{◌≡◌, ℕ, ◌+◌, List, length, drop, sym, 
 use Rattle.rules.specs.declared.kind.Kind.{Kind}
 use Rattle.job.specs.Held.{job_of}
 use Rattle.plan.specs.Units.{units}
-use Rattle.cost.specs.Costs.{Meaning, total_from}
-use Rattle.cost.proofs.Totals.{total_more, total_all}
+use Rattle.schemes.specs.Costs.{Meaning, total_from}
+use Rattle.schemes.proofs.Totals.{total_more, total_all}
 use Rattle.cost.proofs.total.plan_cost.Goals as goal
 
 pub loop-k-preserved : goal.loop-k-preserved

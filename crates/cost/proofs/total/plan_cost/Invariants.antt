@@ -1,7 +1,7 @@
 use Rattle.std.proofs.Common.{◌≡◌, ◌+◌, drop}
 use Rattle.job.specs.Held.{job_of}
 use Rattle.plan.specs.Units.{units}
-use Rattle.cost.specs.Costs.{cost, total_from}
+use Rattle.schemes.specs.Costs.{cost, total_from}
 use Rattle.cost.proofs.total.plan_cost.Given as goal
 
 -- what was spent, plus the kinds that are left, is the cost

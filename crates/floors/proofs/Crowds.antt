@@ -7,10 +7,10 @@ use Rattle.std.proofs.lemmas.Bool.{cases_order}
 use Rattle.plan.specs.declared.slot.Slot.{Slot}
 use Rattle.plan.specs.Plans.{SameStep, Meet}
 use Rattle.plan.proofs.Meets.{meet_sym}
-use Rattle.bound.specs.Pigeonhole.{pigeonhole, packed}
-use Rattle.bound.specs.Remainders.{offsets_same}
-use Rattle.bound.specs.Meets.{long_meet}
-use Rattle.bound.specs.Selected.{Pairs, pairs_getD}
+use Rattle.floors.proofs.Pigeonhole.{pigeonhole, packed}
+use Rattle.floors.proofs.Remainders.{offsets_same}
+use Rattle.floors.proofs.Meets.{long_meet}
+use Rattle.floors.proofs.Selected.{Pairs, pairs_getD}
 
 -- at latency l the steps from s to e go into w cells, and only steps that are the same to a unit share a cell
 pub record Folded (l s e w : ℕ) (cell : ℕ → ℕ) : Type 0 where

@@ -10,7 +10,7 @@ use Rattle.plan.specs.declared.slot.Slot.{Slot}
 use Rattle.plan.specs.Order.{Begins}
 use Rattle.plan.specs.Plans.{Plan}
 use Rattle.windows.specs.Windows.{Frame, frames_with, frames}
-use Rattle.bound.specs.Inside.{plan_inside}
+use Rattle.floors.proofs.Inside.{plan_inside}
 
 abbrev pub StartsIn : Frame → Slot → Type 0
 StartsIn f t = (f.0 ≤ t.start) × (pos t.start ≤ℤ f.1)

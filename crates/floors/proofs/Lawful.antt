@@ -1,4 +1,4 @@
--- The floors of the placed operations and of the windows are lawful.
+-- The floors of the placed operations and of the windows are lawful, and so is the larger of two lawful floors.
 use Rattle.std.specs.Prelude.{◌≡◌, ℕ, ◌+◌, ◌-◌, ◌*◌, ◌≤◌, ◌⊎◌, List, [], length}
 use Rattle.std.proofs.Common.{ap, ◌∙◌, inl, inr, arith, le_trans}
 use Rattle.std.proofs.lemmas.Nat.{mul-le}
@@ -10,12 +10,12 @@ use Rattle.plan.specs.Places.{Place}
 use Rattle.plan.specs.Plans.{Stands}
 use Rattle.plan.specs.Units.{units}
 use Rattle.windows.specs.Windows.{frames, confined, room, window, windows}
-use Rattle.bound.specs.Bounds.{LawfulFloor}
-use Rattle.bound.specs.Figures.{figure_le}
-use Rattle.bound.specs.Units.{units_extended, units_capped, cap_small}
-use Rattle.bound.specs.Confined.{confined_few, of_kind_few}
-use Rattle.bound.specs.OneWindow.{rounded_up_few, window_le, alone_le}
-use Rattle.bound.specs.AllWindows.{windows_le}
+use Rattle.floors.specs.Floors.{Floor, Sound, LawfulFloor, greater}
+use Rattle.floors.proofs.Figures.{figure_le}
+use Rattle.floors.proofs.Units.{units_extended, units_capped, cap_small}
+use Rattle.floors.proofs.Confined.{confined_few, of_kind_few}
+use Rattle.floors.proofs.OneWindow.{rounded_up_few, window_le, alone_le}
+use Rattle.floors.proofs.AllWindows.{windows_le}
 
 -- slots for which a bound is asked keep to the caps
 capped : (j : Job) (p : List Slot) → (p ≡ []) ⊎ Place j p → (n : ℕ) (o : Operation) (s : Slot) → Stands j p n o s → s.unit ≤ cap_of j o
@@ -44,3 +44,15 @@ windows_lawful j p k valid at some few = record {
   under = λ q plan begins.
       windows_le j p k (units j q k) (λ s e. window_le valid plan k some few s e p begins) (alone_le valid plan k some few);
 }
+
+pub greater_lawful : (f g : Floor) → LawfulFloor f → LawfulFloor g → LawfulFloor (greater f g)
+greater_lawful f g first second j p k valid at some few =
+    let a : Sound f j p k = first j p k valid at some few in
+    let b : Sound g j p k = second j p k valid at some few in
+    record {
+      small = omega arith;
+      under = λ q plan begins.
+          let left : f j p k ≤ units j q k = a.under q plan begins in
+          let right : g j p k ≤ units j q k = b.under q plan begins in
+          omega arith;
+    }

@@ -2,7 +2,7 @@
 use Rattle.std.specs.Prelude.{◌≡◌, ◌≤◌}
 use Rattle.std.proofs.Math.Bridge.{le_prop}
 use mathlib.Core.HLevel.{is_prop→PathP, →_prop}
-use Rattle.cost.specs.declared.rank.Rank.{Rank}
+use Rattle.schemes.specs.declared.rank.Rank.{Rank}
 
 pub same_rank : (a b : Rank) → a.area ≡ b.area → a.draw ≡ b.draw → a ≡ b
 same_rank a b e f = λ i. record {

@@ -1,11 +1,11 @@
 -- Two schemes of cost: by area, and by area and then draw. Prices and sums stop at 1,000,000,000.
-use Rattle.std.specs.Prelude.{ℕ, ◌+◌, ◌*◌, ◌&&◌, ◌||◌, leb, ◌==◌, nat_le, nat_lt}
-use Rattle.cost.specs.declared.rank.Rank.{Rank}
-use Rattle.cost.specs.Ceiling.{stopped, draw_beside, stopped_few, draw_few, draw_full}
-use Rattle.cost.specs.Costs.{Meaning}
+use Rattle.std.specs.Prelude.{ℕ, ◌+◌, ◌*◌, ◌&&◌, ◌||◌, ◌==◌, nat_le, nat_lt}
+use Rattle.schemes.specs.declared.rank.Rank.{Rank}
+use Rattle.schemes.specs.Ceiling.{stopped, draw_beside, stopped_few, draw_few, draw_full}
+use Rattle.schemes.specs.Costs.{Meaning}
 
 abbrev pub by_area : Meaning ℕ
-by_area = record { nothing = 0; price = λ k n. stopped (k.area * n); sum = λ a b. stopped (a + b); at_most = leb }
+by_area = record { nothing = 0; price = λ k n. stopped (k.area * n); sum = λ a b. stopped (a + b); at_most = nat_le }
 
 -- an area and a draw, each stopped
 abbrev pub rank : ℕ → ℕ → Rank

@@ -6,7 +6,7 @@ use Rattle.std.proofs.lemmas.Bool.{cond_both}
 use Rattle.std.proofs.ByRecursion.{All-get_or}
 use Rattle.rules.specs.declared.operation.Operation.{Operation}
 use Rattle.plan.specs.declared.slot.Slot.{Slot}
-use Rattle.bound.specs.At.{At, at_here, at_later}
+use Rattle.floors.proofs.At.{At, at_here, at_later}
 
 -- of each two elements, the earlier in the list first
 abbrev pub Pairs : {X : Type 0} → (X → X → Type 0) → List X → Type 0

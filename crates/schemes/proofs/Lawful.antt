@@ -2,9 +2,9 @@
 use Rattle.std.specs.Prelude.{ℕ, ◌+◌, ◌*◌, ◌≤◌, T}
 use Rattle.std.proofs.Common.{mul-le-mul_left, arith}
 use Rattle.std.proofs.lemmas.Bool.Decides.{nat_tests}
-use Rattle.cost.specs.Costs.{Lawful}
-use Rattle.cost.specs.Schemes.{by_area, rank, by_rank}
-use Rattle.cost.specs.Ranks.{same_rank}
+use Rattle.schemes.specs.Costs.{Lawful}
+use Rattle.schemes.specs.Schemes.{by_area, rank, by_rank}
+use Rattle.schemes.proofs.Ranks.{same_rank}
 
 pub area_lawful : Lawful by_area
 area_lawful = record {

@@ -2,7 +2,7 @@
 use Rattle.std.proofs.Common.{◌≡◌, ℕ, ◌+◌, ◌<◌, ◌≤◌, List, length, get_or, drop, sym, ap, ◌∙◌, ap₂, add-one}
 use Rattle.std.proofs.lemmas.List.{drop_more, drop_all}
 use Rattle.rules.specs.declared.kind.Kind.{Kind}
-use Rattle.cost.specs.Costs.{Meaning, total_from}
+use Rattle.schemes.specs.Costs.{Meaning, total_from}
 
 module _ {V : Type 0} (m : Meaning V) (count : ℕ → ℕ) (ks : List Kind) where
   -- `kind` is the next, and `after` what is spent with the price of its units

@@ -14,13 +14,13 @@ use Rattle.plan.specs.Order.{Begins}
 use Rattle.plan.specs.Plans.{Plan, Meet}
 use Rattle.plan.specs.Units.{units}
 use Rattle.windows.specs.Windows.{frames, confined, of_kind, rounded_up, room, window}
-use Rattle.bound.specs.At.{at_stands}
-use Rattle.bound.specs.Figures.{figure_at, held}
-use Rattle.bound.specs.Units.{unit_le_highest}
-use Rattle.bound.specs.Selected.{selected, all_selected, pairs_selected}
-use Rattle.bound.specs.Crowds.{Crowd, Within, crowd_fits, crowd_alone, steps_folded, remainders_folded}
-use Rattle.bound.specs.Starts.{plan_starts_in}
-use Rattle.bound.specs.Confined.{is_kind, in_window, confined_le, of_kind_le}
+use Rattle.floors.proofs.At.{at_stands}
+use Rattle.floors.proofs.Figures.{figure_at, held}
+use Rattle.floors.proofs.Units.{unit_le_highest}
+use Rattle.floors.proofs.Selected.{selected, all_selected, pairs_selected}
+use Rattle.floors.proofs.Crowds.{Crowd, Within, crowd_fits, crowd_alone, steps_folded, remainders_folded}
+use Rattle.floors.proofs.Starts.{plan_starts_in}
+use Rattle.floors.proofs.Confined.{is_kind, in_window, confined_le, of_kind_le}
 
 rounded_up_le : (n d u : ℕ) → n ≤ d * u → rounded_up n d ≤ u
 rounded_up_le n zero u h = rw div-zero zero-le

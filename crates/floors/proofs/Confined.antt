@@ -6,8 +6,8 @@ use Rattle.std.proofs.lemmas.Bool.Decides.{nat_tests}
 use Rattle.rules.specs.declared.operation.Operation.{Operation}
 use Rattle.plan.specs.declared.slot.Slot.{Slot}
 use Rattle.windows.specs.Windows.{Frame, kept_within, confined, of_kind}
-use Rattle.bound.specs.Selected.{selected}
-use Rattle.bound.specs.Starts.{StartsIn, AllStartIn}
+use Rattle.floors.proofs.Selected.{selected}
+use Rattle.floors.proofs.Starts.{StartsIn, AllStartIn}
 
 abbrev pub is_kind : ℕ → Operation → Slot → Bool
 is_kind k o t = o.kind == k

@@ -10,8 +10,8 @@ use Rattle.plan.specs.declared.slot.Slot.{Slot}
 use Rattle.plan.specs.Order.{Begins}
 use Rattle.plan.specs.Plans.{Stands}
 use Rattle.plan.specs.Units.{highest, units}
-use Rattle.bound.specs.At.{At, at_here, at_later, at_stands}
-use Rattle.bound.specs.Figures.{figure_le}
+use Rattle.floors.proofs.At.{At, at_here, at_later, at_stands}
+use Rattle.floors.proofs.Figures.{figure_le}
 
 -- no operation of the kind has a higher unit
 pub unit_le_highest : (k : ℕ) (os : List Operation) (p : List Slot) (i : ℕ) (o : Operation) (s : Slot) → At os p i o s → o.kind ≡ k → s.unit ≤ highest k os p

@@ -1,0 +1,14 @@
+pub mod At
+pub mod Remainders
+pub mod Pigeonhole
+pub mod Figures
+pub mod Inside
+pub mod Meets
+pub mod Units
+pub mod Selected
+pub mod Crowds
+pub mod Starts
+pub mod Confined
+pub mod OneWindow
+pub mod AllWindows
+pub mod Lawful
