@@ -4,7 +4,8 @@
 usage: python3 tools/spell_names.py        at the top of the repository, once, after port.py of the kit
 
 A name is one of the repository's own where a file of specs/ or proofs/ declares it. The names that Rattle makes for a proof (goals, steps, loops) are
-joined by dashes and stay. Names of src/ have no dash, and stay too. It stops, and changes nothing, where two names would fall together.
+joined by dashes and stay. Names of src/ have no dash, and stay too. It stops, and changes nothing, where two names that it turns would fall together,
+and tells of each that now is spelled as a word that was there.
 """
 
 import collections
