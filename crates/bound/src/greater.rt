@@ -3,8 +3,7 @@ ghost use Rattle.floors.specs.Floors.{greater};
 ghost use Rattle.floors.proofs.Lawful.{greater_lawful};
 
 use crate::bound::Bound;
-use job::Job;
-use plan::slot::Slot;
+use plan::Draft;
 
 /// Two bounds of whatever make, of which the larger floor counts. Bounds pile up so.
 #[derive(Drop)]
@@ -18,9 +17,9 @@ impl<A: Bound, B: Bound> Bound for Greater<A, B> {
 
     ghost lawful = { λ g. greater_lawful _ _ (A.Bound.lawful g.first) (B.Bound.lawful g.second) };
 
-    fn floor(&self, job: &Job, placed: &[Slot], kind: u8) -> u16 {
-        let first = self.first.floor(job, placed, kind);
-        let second = self.second.floor(job, placed, kind);
+    fn floor(&self, draft: Draft, kind: u8) -> u16 {
+        let first = self.first.floor(draft, kind);
+        let second = self.second.floor(draft, kind);
         first.max(second)
     }
 }

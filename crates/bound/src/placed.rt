@@ -3,9 +3,7 @@ ghost use Rattle.plan.specs.Units.{units};
 ghost use Rattle.floors.proofs.Lawful.{placed_lawful};
 
 use crate::bound::Bound;
-use job::Job;
-use plan::slot::Slot;
-use plan::units::units_of;
+use plan::Draft;
 
 /// The highest unit among the operations of the kind that have a slot, 0 if there are none.
 #[derive(Clone, Copy)]
@@ -16,7 +14,7 @@ impl Bound for Placed {
 
     ghost lawful = { λ b. placed_lawful };
 
-    fn floor(&self, job: &Job, placed: &[Slot], kind: u8) -> u16 {
-        units_of(job, placed, kind) as u16
+    fn floor(&self, draft: Draft, kind: u8) -> u16 {
+        draft.units_of(kind) as u16
     }
 }

@@ -3,8 +3,7 @@ ghost use Rattle.windows.specs.Windows.{windows};
 ghost use Rattle.floors.proofs.Lawful.{windows_lawful};
 
 use crate::bound::Bound;
-use job::Job;
-use plan::slot::Slot;
+use plan::Draft;
 use windows::windows_floor;
 
 /// For steps s to e, the operations of the kind that their frames keep busy within these steps need some units; a placed operation
@@ -18,7 +17,7 @@ impl Bound for Windows {
 
     ghost lawful = { λ b. windows_lawful };
 
-    fn floor(&self, job: &Job, placed: &[Slot], kind: u8) -> u16 {
-        windows_floor(job, placed, kind)
+    fn floor(&self, draft: Draft, kind: u8) -> u16 {
+        windows_floor(draft, kind)
     }
 }

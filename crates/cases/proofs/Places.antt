@@ -1,9 +1,9 @@
 -- Places, from the rules.
 use Rattle.std.proofs.Common.{◌≡◌, ℕ, zero, suc, List, [], ◌∷◌, Some, refl, subst, arith}
+use Rattle.std.proofs.lemmas.Option.{none-some, same_Some}
 use Rattle.std.proofs.lemmas.Int.{ints}
 use Rattle.rules.specs.declared.operation.Operation.{Operation}
 use Rattle.rules.specs.Jobs.{numbered}
-use Rattle.rules.proofs.Numbered.{none_some, some_same}
 use Rattle.plan.specs.declared.slot.Slot.{Slot}
 use Rattle.plan.specs.Places.{Place, Choosable, Inside}
 use Rattle.plan.specs.Plans.{Stands}
@@ -13,21 +13,21 @@ use Rattle.cases.specs.Places.{chained, PlacesTold}
 
 -- a fact of the two operations of the job, each by its number
 by_number : (P : ℕ → Operation → Type 0) → P 1 (record { kind = 1; left = 0; right = 0 }) → P 2 (record { kind = 1; left = 1; right = 0 }) → (n : ℕ) (o : Operation) → numbered chained.operations n ≡ Some o → P n o
-by_number P one two zero o e = absurd (none_some o e)
-by_number P one two (suc zero) o e = subst (P 1) (some_same _ o e) one
-by_number P one two (suc (suc zero)) o e = subst (P 2) (some_same _ o e) two
-by_number P one two (suc (suc (suc n))) o e = absurd (none_some o e)
+by_number P one two zero o e = absurd (none-some o e)
+by_number P one two (suc zero) o e = subst (P 1) (same_Some _ o e) one
+by_number P one two (suc (suc zero)) o e = subst (P 2) (same_Some _ o e) two
+by_number P one two (suc (suc (suc n))) o e = absurd (none-some o e)
 
 -- both slots are inside their frames
 inside : (n : ℕ) (o : Operation) (s : Slot) → Stands chained (at 2 4 ∷ at 3 1 ∷ []) n o s → Inside chained n o s
-inside zero o s w = absurd (none_some o w.row)
+inside zero o s w = absurd (none-some o w.row)
 inside (suc zero) o s w =
-    subst (λ x. Inside chained 1 x s) (some_same _ o w.row) (subst (Inside chained 1 (record { kind = 1; left = 0; right = 0 })) (some_same _ s w.slot)
+    subst (λ x. Inside chained 1 x s) (same_Some _ o w.row) (subst (Inside chained 1 (record { kind = 1; left = 0; right = 0 })) (same_Some _ s w.slot)
     (record { begun = omega arith; ended = omega (arith, ints); counted = omega arith; capped = omega arith }))
 inside (suc (suc zero)) o s w =
-    subst (λ x. Inside chained 2 x s) (some_same _ o w.row) (subst (Inside chained 2 (record { kind = 1; left = 1; right = 0 })) (some_same _ s w.slot)
+    subst (λ x. Inside chained 2 x s) (same_Some _ o w.row) (subst (Inside chained 2 (record { kind = 1; left = 1; right = 0 })) (same_Some _ s w.slot)
     (record { begun = omega arith; ended = omega (arith, ints); counted = omega arith; capped = omega arith }))
-inside (suc (suc (suc n))) o s w = absurd (none_some o w.row)
+inside (suc (suc (suc n))) o s w = absurd (none-some o w.row)
 
 beside : Place chained (at 2 4 ∷ at 3 1 ∷ [])
 beside = record {

@@ -13,6 +13,8 @@ ghost use Rattle.rules.specs.Refusals.{number};
 
 use rules::refusal::Refusal;
 
+// One function for each table: its contract names the table, and a generic one could name none.
+
 /// How many rows the table of answers has: calls that change a job, and what each is answered. Every row holds.
 pub fn answer_rows() -> usize
     ensures count { result ≡ length answers }

@@ -19,14 +19,10 @@ fn limits(steps: u8, latency: u8) -> Edit {
     Edit::SetLimits { steps, latency }
 }
 
-// Makes the edits in turn; each is answered with its number, 0 where it is accepted.
-fn answered(rt: &impl Abort, job: &mut Job, edits: &[(Edit, u8)]) {
+// Makes the edits in turn; each is accepted, or refused with its number.
+fn answered(rt: &impl Abort, job: &mut Job, edits: &[(Edit, Result<(), u8>)]) {
     for (edit, expected) in edits {
-        let number = match job.edit(*edit) {
-            Ok(()) => 0,
-            Err(refusal) => refusal.number(),
-        };
-        assert_eq!(rt; number, *expected);
+        assert_eq!(rt; job.edit(*edit).map_err(|why| why.number()), *expected);
     }
 }
 
@@ -38,14 +34,14 @@ fn the_ends_of_the_ranges(rt: HostRuntime) {
         &rt,
         &mut job,
         &[
-            (kind(0, 0, 1), 1),
-            (kind(9, 1, 1), 1),
-            (kind(2, 0, 1), 1),
-            (kind(2, 3, 1), 1),
-            (kind(1, 1, 65), 1),
-            (limits(0, 0), 2),
-            (limits(65, 0), 2),
-            (limits(1, 65), 2),
+            (kind(0, 0, 1), Err(1)),
+            (kind(9, 1, 1), Err(1)),
+            (kind(2, 0, 1), Err(1)),
+            (kind(2, 3, 1), Err(1)),
+            (kind(1, 1, 65), Err(1)),
+            (limits(0, 0), Err(2)),
+            (limits(65, 0), Err(2)),
+            (limits(1, 65), Err(2)),
         ],
     );
     assert!(rt;
@@ -55,7 +51,11 @@ fn the_ends_of_the_ranges(rt: HostRuntime) {
     answered(
         &rt,
         &mut job,
-        &[(kind(8, 8, 64), 0), (kind(1, 1, 0), 0), (limits(64, 64), 0)],
+        &[
+            (kind(8, 8, 64), Ok(())),
+            (kind(1, 1, 0), Ok(())),
+            (limits(64, 64), Ok(())),
+        ],
     );
     assert!(rt; holds(&job, 2, 0, 64, 64));
 }
@@ -67,12 +67,12 @@ fn the_house_library(rt: HostRuntime) {
         &rt,
         &mut job,
         &[
-            (library(0, 1), 4),
-            (library(5, 1), 4),
-            (library(1, 11), 0),
-            (library(2, 12), 0),
-            (library(3, 13), 0),
-            (library(4, 14), 0),
+            (library(0, 1), Err(4)),
+            (library(5, 1), Err(4)),
+            (library(1, 11), Ok(())),
+            (library(2, 12), Ok(())),
+            (library(3, 13), Ok(())),
+            (library(4, 14), Ok(())),
         ],
     );
     assert!(rt; has_kind(&job, 0, figures(1, 1, 11, 32, 8)));
@@ -88,12 +88,12 @@ fn busy_time_and_latency(rt: HostRuntime) {
         &rt,
         &mut job,
         &[
-            (kind(2, 2, 4), 0),
-            (limits(6, 1), 13),
-            (limits(6, 2), 0),
-            (kind(3, 3, 1), 13),
-            (library(4, 1), 0),
-            (limits(6, 1), 13),
+            (kind(2, 2, 4), Ok(())),
+            (limits(6, 1), Err(13)),
+            (limits(6, 2), Ok(())),
+            (kind(3, 3, 1), Err(13)),
+            (library(4, 1), Ok(())),
+            (limits(6, 1), Err(13)),
         ],
     );
     assert!(rt; holds(&job, 2, 0, 6, 2));
@@ -106,27 +106,31 @@ fn two_faults_in_one_call(rt: HostRuntime) {
         &rt,
         &mut job,
         &[
-            (limits(5, 1), 0),
-            (kind(9, 2, 1), 1),
-            (library(5, 65), 4),
-            (library(3, 65), 1),
+            (limits(5, 1), Ok(())),
+            (kind(9, 2, 1), Err(1)),
+            (library(5, 65), Err(4)),
+            (library(3, 65), Err(1)),
         ],
     );
-    answered(&rt, &mut job, &[(library(1, 1), 0); 8]);
+    answered(&rt, &mut job, &[(library(1, 1), Ok(())); 8]);
     answered(
         &rt,
         &mut job,
         &[
-            (kind(9, 1, 1), 1),
-            (library(0, 1), 4),
-            (library(1, 65), 1),
-            (kind(2, 2, 1), 9),
-            (library(3, 1), 9),
+            (kind(9, 1, 1), Err(1)),
+            (library(0, 1), Err(4)),
+            (library(1, 65), Err(1)),
+            (kind(2, 2, 1), Err(9)),
+            (library(3, 1), Err(9)),
         ],
     );
     assert!(rt; job.kinds().len() == 8);
     let mut slow = Job::new();
-    answered(&rt, &mut slow, &[(kind(2, 2, 1), 0), (limits(0, 1), 2)]);
+    answered(
+        &rt,
+        &mut slow,
+        &[(kind(2, 2, 1), Ok(())), (limits(0, 1), Err(2))],
+    );
 }
 
 #[test]
@@ -136,12 +140,12 @@ fn faults_in_an_operation(rt: HostRuntime) {
         &rt,
         &mut job,
         &[
-            (row(0, 9, 9), 11),
-            (row(1, 0, 0), 11),
-            (kind(2, 2, 4), 0),
-            (row(2, 0, 0), 11),
-            (row(1, 1, 0), 12),
-            (row(1, 0, 1), 12),
+            (row(0, 9, 9), Err(11)),
+            (row(1, 0, 0), Err(11)),
+            (kind(2, 2, 4), Ok(())),
+            (row(2, 0, 0), Err(11)),
+            (row(1, 1, 0), Err(12)),
+            (row(1, 0, 1), Err(12)),
         ],
     );
     assert!(rt;
@@ -149,9 +153,13 @@ fn faults_in_an_operation(rt: HostRuntime) {
         "a refusal leaves no row behind"
     );
     for n in 0..64 {
-        answered(&rt, &mut job, &[(row(1, n, n), 0)]);
+        answered(&rt, &mut job, &[(row(1, n, n), Ok(()))]);
     }
-    answered(&rt, &mut job, &[(row(1, 0, 0), 10), (row(0, 99, 0), 10)]);
+    answered(
+        &rt,
+        &mut job,
+        &[(row(1, 0, 0), Err(10)), (row(0, 99, 0), Err(10))],
+    );
     assert!(rt; job.operations().len() == 64);
 }
 

@@ -4,168 +4,167 @@ use job::Job;
 use std::alloc::{AllocError, Global};
 use std::test::Fail;
 
-// A file, and what a new job answers to it: nothing, or the refusal's number and offset.
+// A file, and what a new job answers to it: it is loaded, or refused with a number and an offset.
 #[derive(Drop)]
 struct Case {
     what: &'static str,
     file: &'static [u8],
-    answer: Option<(u8, usize)>,
+    answer: Result<(), (u8, usize)>,
 }
 
 // Whole files, torn records, unknown records, and each refusal behind a first record that ends at offset 5.
-const CASES: [Case; 29] = [
+const CASES: &[Case] = &[
     Case {
         what: "empty",
         file: &[],
-        answer: Some((5, 0)),
+        answer: Err((5, 0)),
     },
     Case {
         what: "version 0",
         file: &[0],
-        answer: Some((5, 0)),
+        answer: Err((5, 0)),
     },
     Case {
         what: "version 2",
         file: &[2, 0, 3, 3, 6, 4],
-        answer: Some((5, 0)),
+        answer: Err((5, 0)),
     },
     Case {
         what: "no records",
         file: &[1],
-        answer: None,
+        answer: Ok(()),
     },
     Case {
         what: "one record",
         file: &[1, 0, 3, 3, 6, 4],
-        answer: None,
+        answer: Ok(()),
     },
     Case {
         what: "a body cut short",
         file: &[1, 0, 3, 3, 6],
-        answer: Some((6, 1)),
+        answer: Err((6, 1)),
     },
     Case {
         what: "one byte of a length",
         file: &[1, 0],
-        answer: Some((6, 1)),
+        answer: Err((6, 1)),
     },
     Case {
         what: "one byte left",
         file: &[1, 0, 3, 3, 6, 4, 0],
-        answer: Some((6, 6)),
+        answer: Err((6, 6)),
     },
     Case {
         what: "an unknown tag too",
         file: &[1, 0, 9, 5, 0],
-        answer: Some((6, 1)),
+        answer: Err((6, 1)),
     },
     Case {
         what: "a fault of the call too",
         file: &[1, 0, 3, 3, 0],
-        answer: Some((6, 1)),
+        answer: Err((6, 1)),
     },
     Case {
         what: "the high byte counts",
         file: &[1, 1, 3, 3, 6, 4],
-        answer: Some((6, 1)),
+        answer: Err((6, 1)),
     },
     Case {
         what: "length 0",
         file: &[1, 0, 0],
-        answer: Some((7, 1)),
+        answer: Err((7, 1)),
     },
     Case {
         what: "a tag alone",
         file: &[1, 0, 1, 3],
-        answer: Some((7, 1)),
+        answer: Err((7, 1)),
     },
     Case {
         what: "tag 0",
         file: &[1, 0, 3, 0, 6, 4],
-        answer: Some((7, 1)),
+        answer: Err((7, 1)),
     },
     Case {
         what: "tag 5",
         file: &[1, 0, 3, 5, 6, 4],
-        answer: Some((7, 1)),
+        answer: Err((7, 1)),
     },
     Case {
         what: "limits one too long",
         file: &[1, 0, 4, 3, 6, 4, 0],
-        answer: Some((7, 1)),
+        answer: Err((7, 1)),
     },
     Case {
         what: "limits one too short",
         file: &[1, 0, 2, 3, 6],
-        answer: Some((7, 1)),
+        answer: Err((7, 1)),
     },
     Case {
         what: "an operation one too long",
         file: &[1, 0, 5, 2, 1, 0, 0, 0],
-        answer: Some((7, 1)),
+        answer: Err((7, 1)),
     },
     Case {
         what: "a library kind one too long",
         file: &[1, 0, 4, 4, 1, 1, 1],
-        answer: Some((7, 1)),
+        answer: Err((7, 1)),
     },
     Case {
         what: "a kind one too short",
         file: &[1, 0, 7, 1, 1, 1, 1, 0, 0, 0],
-        answer: Some((7, 1)),
+        answer: Err((7, 1)),
     },
     Case {
         what: "busy above duration",
         file: &[1, 0, 3, 3, 6, 1, 0, 8, 1, 1, 2, 4, 0, 0, 0, 0],
-        answer: Some((1, 6)),
+        answer: Err((1, 6)),
     },
     Case {
         what: "no steps",
         file: &[1, 0, 3, 3, 6, 1, 0, 3, 3, 0, 1],
-        answer: Some((2, 6)),
+        answer: Err((2, 6)),
     },
     Case {
         what: "library number 5",
         file: &[1, 0, 3, 3, 6, 1, 0, 3, 4, 5, 1],
-        answer: Some((4, 6)),
+        answer: Err((4, 6)),
     },
     Case {
         what: "torn",
         file: &[1, 0, 3, 3, 6, 1, 0, 3, 3, 6],
-        answer: Some((6, 6)),
+        answer: Err((6, 6)),
     },
     Case {
         what: "unknown",
         file: &[1, 0, 3, 3, 6, 1, 0, 2, 9, 9],
-        answer: Some((7, 6)),
+        answer: Err((7, 6)),
     },
     Case {
         what: "no such kind",
         file: &[1, 0, 3, 3, 6, 1, 0, 4, 2, 1, 0, 0],
-        answer: Some((11, 6)),
+        answer: Err((11, 6)),
     },
     Case {
         what: "its own operand",
         file: &[1, 0, 3, 3, 6, 1, 0, 3, 4, 1, 1, 0, 4, 2, 1, 1, 0],
-        answer: Some((12, 11)),
+        answer: Err((12, 11)),
     },
     Case {
         what: "the kind comes second",
         file: &[1, 0, 3, 3, 6, 1, 0, 3, 4, 3, 1],
-        answer: Some((13, 6)),
+        answer: Err((13, 6)),
     },
     Case {
         what: "the limits come second",
         file: &[1, 0, 3, 4, 3, 1, 0, 3, 3, 6, 1],
-        answer: Some((13, 6)),
+        answer: Err((13, 6)),
     },
 ];
 
-fn answer(file: &[u8]) -> Option<(u8, usize)> {
-    match Job::new().load(file) {
-        Ok(()) => None,
-        Err(refusal) => Some((refusal.reason.number(), refusal.offset)),
-    }
+fn answer(file: &[u8]) -> Result<(), (u8, usize)> {
+    Job::new()
+        .load(file)
+        .map_err(|why| (why.reason.number(), why.offset))
 }
 
 // A file of one part, and then another part so many times.
@@ -179,7 +178,7 @@ fn repeated(heap: Global, first: &[u8], part: &[u8], times: usize) -> Result<Vec
 
 #[test]
 fn each_file_is_answered(rt: HostRuntime) {
-    for case in CASES.iter() {
+    for case in CASES {
         assert_eq!(rt; answer(case.file), case.answer, "{}", case.what);
     }
 }
@@ -188,20 +187,20 @@ fn each_file_is_answered(rt: HostRuntime) {
 fn long_files(rt: HostRuntime) -> Result<(), Fail> {
     let longest = repeated(rt.alloc(), &[1], &[0, 3, 3, 6, 4], 819)?;
     assert!(rt; longest.len() == 4096);
-    assert_eq!(rt; answer(longest.as_slice()), None);
+    assert_eq!(rt; answer(longest.as_slice()), Ok(()));
     let longer = repeated(rt.alloc(), &[1, 0], &[0, 3, 3, 6, 4], 819)?;
     assert!(rt; longer.len() == 4097);
-    assert_eq!(rt; answer(longer.as_slice()), Some((5, 0)));
+    assert_eq!(rt; answer(longer.as_slice()), Err((5, 0)));
     let kinds = repeated(rt.alloc(), &[1], &[0, 3, 4, 1, 1], 9)?;
     assert_eq!(rt;
         answer(kinds.as_slice()),
-        Some((9, 41)),
+        Err((9, 41)),
         "a ninth kind, behind eight of 5 bytes"
     );
     let operations = repeated(rt.alloc(), &[1, 0, 3, 4, 1, 1], &[0, 4, 2, 1, 0, 0], 65)?;
     assert_eq!(rt;
         answer(operations.as_slice()),
-        Some((10, 390)),
+        Err((10, 390)),
         "a 65th operation, behind 64 of 6 bytes"
     );
     Ok(())

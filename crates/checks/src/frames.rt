@@ -17,12 +17,10 @@ fn job_of(duration: u8, busy: u8, steps: u8, operands: &[(u8, u8)]) -> Result<Jo
 
 // The operations from the first on have these frames, and there is none behind them.
 fn framed(rt: &impl Abort, job: &Job, frames: &[(i16, i16)], what: &'static str) {
-    let mut number = 1u8;
-    for frame in frames {
-        assert_eq!(rt; job.frame(number).ok(), Some(*frame), "{}", what);
-        number = number.saturating_add(1);
+    let told = frames.iter().map(|frame| Some(*frame)).chain([None]);
+    for (number, frame) in (1..=u8::MAX).zip(told) {
+        assert_eq!(rt; job.frame(number).ok(), frame, "{}", what);
     }
-    assert_eq!(rt; job.frame(number).ok(), None, "{}", what);
     assert_eq!(rt; job.frame(0).ok(), None, "{}", what);
 }
 

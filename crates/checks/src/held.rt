@@ -1,5 +1,5 @@
 //! What a job holds.
-use job::{Figures, Job, Operation};
+use job::{Figures, Job, Kind, Operation};
 
 // So many kinds and operations, and these limits.
 pub(crate) fn holds(job: &Job, kinds: usize, operations: usize, steps: u8, latency: u8) -> bool {
@@ -9,28 +9,25 @@ pub(crate) fn holds(job: &Job, kinds: usize, operations: usize, steps: u8, laten
         && job.latency() == latency
 }
 
+// Field by field, so that a test does not lean on the conversion that it looks at.
+fn figures_of(kind: &Kind) -> Figures {
+    Figures {
+        duration: kind.duration,
+        busy: kind.busy,
+        cap: kind.cap,
+        area: kind.area,
+        draw: kind.draw,
+    }
+}
+
 // The kind at an index, from 0, has these figures.
 pub(crate) fn has_kind(job: &Job, index: usize, figures: Figures) -> bool {
-    match job.kinds().get(index) {
-        None => false,
-        Some(kind) => {
-            kind.duration == figures.duration
-                && kind.busy == figures.busy
-                && kind.cap == figures.cap
-                && kind.area == figures.area
-                && kind.draw == figures.draw
-        }
-    }
+    job.kinds().get(index).map(figures_of) == Some(figures)
 }
 
 // The operation at an index, from 0, is this one.
 pub(crate) fn has_operation(job: &Job, index: usize, operation: Operation) -> bool {
-    match job.operations().get(index) {
-        None => false,
-        Some(row) => {
-            row.kind == operation.kind && row.left == operation.left && row.right == operation.right
-        }
-    }
+    job.operations().get(index).copied() == Some(operation)
 }
 
 pub(crate) fn figures(duration: u8, busy: u8, cap: u8, area: u16, draw: u16) -> Figures {

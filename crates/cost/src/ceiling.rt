@@ -8,9 +8,5 @@ pub(crate) const CEILING: u32 = 1_000_000_000;
 pub(crate) fn stop(n: u64) -> u32
     ensures { result ≡ stopped n }
 {
-    if n < CEILING as u64 {
-        n as u32
-    } else {
-        CEILING
-    }
+    n.min(CEILING as u64) as u32
 }

@@ -52,6 +52,6 @@ impl Scheme for Ranked {
     }
 
     fn at_most(&self, a: Rank, b: Rank) -> bool {
-        a.area < b.area || (a.area == b.area && a.draw <= b.draw)
+        a <= b
     }
 }

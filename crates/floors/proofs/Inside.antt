@@ -1,12 +1,13 @@
 -- Every plan starts its operations inside their frames, so its first slots are a place.
 use Rattle.std.specs.Prelude.{◌≡◌, ℕ, zero, suc, ◌+◌, ◌<◌, ◌≤◌, List, [], ◌∷◌, ◌++◌, length, pos, ◌≤ℤ◌, Some}
 use Rattle.std.proofs.Common.{sym, ap, subst, ◌∙◌, ⊎_elim, arith, length-append}
+use Rattle.std.proofs.lemmas.Option.{none-some, same_Some}
 use Rattle.std.specs.List.{slice_get}
 use Rattle.std.proofs.lemmas.Int.{ints}
 use Rattle.rules.specs.declared.operation.Operation.{Operation}
 use Rattle.rules.specs.Jobs.{Job, Valid, numbered, duration_of}
 use Rattle.rules.specs.Frames.{Uses, Framed, earliest_start, latest_start, duration_at}
-use Rattle.rules.proofs.Numbered.{none_some, some_same, nth_within, numbered_within}
+use Rattle.rules.proofs.Numbered.{nth_within, numbered_within}
 use Rattle.rules.proofs.Rows.{duration_held}
 use Rattle.rules.proofs.FramesRight.{frames_right}
 use Rattle.plan.specs.declared.slot.Slot.{Slot}
@@ -34,7 +35,7 @@ module _ (j : Job) (valid : Valid j) (q : List Slot) (plan : Plan j q) where
   -- an operand is done when its user starts
   done_before : (m n : ℕ) (a b : Operation) (s t : Slot) → Stands j q m a s → Stands j q n b t → Uses j n m → s.start + duration_at j m ≤ t.start
   done_before m n a b s t v w u =
-      let same : u.row ≡ b = some_same u.row b (sym u.held ∙ w.row) in
+      let same : u.row ≡ b = same_Some u.row b (sym u.held ∙ w.row) in
       let kept = plan.kept n b t w in
       let done : s.start + duration_of j a ≤ t.start =
       ⊎_elim
@@ -87,12 +88,12 @@ plan_inside {j} {q} valid plan n o s w =
 
 -- what has a place in a list has it in what begins with the list
 nth_begins : (p rest : List Slot) (i : ℕ) (s : Slot) → slice_get p i ≡ Some s → slice_get (p ++ rest) i ≡ Some s
-nth_begins [] rest i s e = absurd (none_some s e)
+nth_begins [] rest i s e = absurd (none-some s e)
 nth_begins (t ∷ p) rest zero s e = e
 nth_begins (t ∷ p) rest (suc i) s e = nth_begins p rest i s e
 
 numbered_begins : (p q : List Slot) → Begins p q → (n : ℕ) (s : Slot) → numbered p n ≡ Some s → numbered q n ≡ Some s
-numbered_begins p q b zero s e = absurd (none_some s e)
+numbered_begins p q b zero s e = absurd (none-some s e)
 numbered_begins p q b (suc i) s e = subst (λ l. slice_get l i ≡ Some s) b.1 (nth_begins p b.0 i s e)
 
 -- so the first slots of a plan are a place
@@ -104,7 +105,7 @@ plan_place {j} {q} valid plan p b some = record {
       let r = numbered_within j.operations n o e in
       let m = placed j valid q plan n r.0 r.1 in
       let inside = plan_inside valid plan n m.operation m.slot m.stands in
-      let same : m.operation ≡ o = some_same m.operation o (sym m.stands.row ∙ e) in
+      let same : m.operation ≡ o = same_Some m.operation o (sym m.stands.row ∙ e) in
       subst (Choosable j n) same (record { start = omega (arith, ints); unit = omega arith });
   inside = λ n o s w. plan_inside valid plan n o s (record { row = w.row; slot = numbered_begins p q b n s w.slot });
 }

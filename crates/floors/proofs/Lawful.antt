@@ -1,10 +1,11 @@
 -- The floors of the placed operations and of the windows are lawful, and so is the larger of two lawful floors.
 use Rattle.std.specs.Prelude.{◌≡◌, ℕ, ◌+◌, ◌-◌, ◌*◌, ◌≤◌, ◌⊎◌, List, [], length}
 use Rattle.std.proofs.Common.{ap, ◌∙◌, inl, inr, arith, le_trans}
+use Rattle.std.proofs.lemmas.Option.{none-some}
 use Rattle.std.proofs.lemmas.Nat.{mul-le}
 use Rattle.rules.specs.declared.operation.Operation.{Operation}
 use Rattle.rules.specs.Jobs.{Job, Valid, figure, cap_of}
-use Rattle.rules.proofs.Numbered.{none_some, numbered_none}
+use Rattle.rules.proofs.Numbered.{numbered_none}
 use Rattle.plan.specs.declared.slot.Slot.{Slot}
 use Rattle.plan.specs.Places.{Place}
 use Rattle.plan.specs.Plans.{Stands}
@@ -19,7 +20,7 @@ use Rattle.floors.proofs.AllWindows.{windows_le}
 
 -- slots for which a bound is asked keep to the caps
 capped : (j : Job) (p : List Slot) → (p ≡ []) ⊎ Place j p → (n : ℕ) (o : Operation) (s : Slot) → Stands j p n o s → s.unit ≤ cap_of j o
-capped j p (inl none) n o s w = absurd (none_some s (numbered_none p n (grind (arith, ap length none)) ∙ w.slot))
+capped j p (inl none) n o s w = absurd (none-some s (numbered_none p n (grind (arith, ap length none)) ∙ w.slot))
 capped j p (inr place) n o s w = (place.inside n o s w).capped
 
 pub placed_lawful : LawfulFloor units

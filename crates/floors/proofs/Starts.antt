@@ -1,11 +1,12 @@
 -- A plan starts its operations inside the frames that its first slots leave.
 use Rattle.std.specs.Prelude.{◌≡◌, ℕ, zero, suc, ◌≤◌, List, [], ◌∷◌, ◌++◌, ℤ, pos, ◌≤ℤ◌, Some, slice_index, slice_index_or}
 use Rattle.std.proofs.Common.{subst, arith}
+use Rattle.std.proofs.lemmas.Option.{none-some, same_Some, slice_get_within}
 use Rattle.std.specs.List.{slice_get}
 use Rattle.std.proofs.lemmas.Int.{ints}
 use Rattle.rules.specs.Jobs.{Job, Valid}
 use Rattle.rules.specs.Frames.{earliests, latests}
-use Rattle.rules.proofs.Numbered.{none_some, some_same, nth_within, within_nth}
+use Rattle.rules.proofs.Numbered.{nth_within}
 use Rattle.plan.specs.declared.slot.Slot.{Slot}
 use Rattle.plan.specs.Order.{Begins}
 use Rattle.plan.specs.Plans.{Plan}
@@ -24,14 +25,14 @@ abbrev StartBetween : List ℕ → List ℤ → List Slot → Type 0
 StartBetween es zs q = (i : ℕ) (t : Slot) → slice_get q i ≡ Some t → StartsIn (slice_index es i, slice_index_or zs i (pos 0)) t
 
 starts_with : (p rest : List Slot) (es : List ℕ) (zs : List ℤ) → StartBetween es zs (p ++ rest) → AllStartIn (frames_with p es zs) (p ++ rest)
-starts_with p rest [] zs own i f t e w = absurd (none_some f e)
-starts_with p rest (a ∷ es) [] own i f t e w = absurd (none_some f e)
-starts_with [] [] (a ∷ es) (z ∷ zs) own i f t e w = absurd (none_some t w)
-starts_with [] (u ∷ rest) (a ∷ es) (z ∷ zs) own zero f t e w = subst (λ g. StartsIn g t) (some_same (a, z) f e) (own 0 t w)
+starts_with p rest [] zs own i f t e w = absurd (none-some f e)
+starts_with p rest (a ∷ es) [] own i f t e w = absurd (none-some f e)
+starts_with [] [] (a ∷ es) (z ∷ zs) own i f t e w = absurd (none-some t w)
+starts_with [] (u ∷ rest) (a ∷ es) (z ∷ zs) own zero f t e w = subst (λ g. StartsIn g t) (same_Some (a, z) f e) (own 0 t w)
 starts_with [] (u ∷ rest) (a ∷ es) (z ∷ zs) own (suc i) f t e w = starts_with [] rest es zs (λ m. own (suc m)) i f t e w
 starts_with (u ∷ p) rest (a ∷ es) (z ∷ zs) own zero f t e w =
-    let same : u ≡ t = some_same u t w in
-    subst (λ g. StartsIn g t) (some_same (u.start, pos u.start) f e) (rw same (omega arith, omega (arith, ints)))
+    let same : u ≡ t = same_Some u t w in
+    subst (λ g. StartsIn g t) (same_Some (u.start, pos u.start) f e) (rw same (omega arith, omega (arith, ints)))
 starts_with (u ∷ p) rest (a ∷ es) (z ∷ zs) own (suc i) f t e w = starts_with p rest es zs (λ m. own (suc m)) i f t e w
 
 pub plan_starts_in : {j : Job} {q : List Slot} → Valid j → Plan j q → (p : List Slot) → Begins p q → AllStartIn (frames j p) q
@@ -41,7 +42,7 @@ plan_starts_in {j} {q} valid plan p b =
   where
     own : StartBetween (earliests j) (latests j) q
     own i t e =
-        let far = within_nth q i t e in
+        let far = slice_get_within q i t e in
         let o = nth_within j.operations i (omega (arith, plan.whole)) in
         let inside = plan_inside valid plan (suc i) o.0 t (record { row = o.1; slot = e }) in
         (inside.begun, inside.ended)

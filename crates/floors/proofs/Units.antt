@@ -1,11 +1,11 @@
 -- The units of a kind: more slots have no fewer, and slots that keep to the caps have no more than the cap.
 use Rattle.std.specs.Prelude.{◌≡◌, ℕ, zero, suc, ◌≤◌, List, [], ◌∷◌, ◌++◌, ◌==◌}
 use Rattle.std.proofs.Common.{zero-le, subst, arith}
+use Rattle.std.proofs.lemmas.Option.{none-some}
 use Rattle.std.proofs.lemmas.Bool.{eqb-true, cond_both}
 use Rattle.std.proofs.lemmas.Bool.Decides.{nat_tests}
 use Rattle.rules.specs.declared.operation.Operation.{Operation}
 use Rattle.rules.specs.Jobs.{Job, figure, cap_of}
-use Rattle.rules.proofs.Numbered.{none_some}
 use Rattle.plan.specs.declared.slot.Slot.{Slot}
 use Rattle.plan.specs.Order.{Begins}
 use Rattle.plan.specs.Plans.{Stands}
@@ -15,8 +15,8 @@ use Rattle.floors.proofs.Figures.{figure_le}
 
 -- no operation of the kind has a higher unit
 pub unit_le_highest : (k : ℕ) (os : List Operation) (p : List Slot) (i : ℕ) (o : Operation) (s : Slot) → At os p i o s → o.kind ≡ k → s.unit ≤ highest k os p
-unit_le_highest k [] p i o s w e = absurd (none_some o w.operation)
-unit_le_highest k (q ∷ os) [] i o s w e = absurd (none_some s w.slot)
+unit_le_highest k [] p i o s w e = absurd (none-some o w.operation)
+unit_le_highest k (q ∷ os) [] i o s w e = absurd (none-some s w.slot)
 unit_le_highest k (q ∷ os) (t ∷ p) zero o s w e =
     let a : q.kind ≡ k = cc in
     let b : s.unit ≡ t.unit = cc in

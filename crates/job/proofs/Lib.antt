@@ -1,1 +1,2 @@
+mod Zipping
 mod Questions

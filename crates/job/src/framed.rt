@@ -1,9 +1,7 @@
 //! A job: its tables, and the frame of each operation.
-ghost use Rattle.std.specs.Prelude.{◌≡◌, pos};
-ghost use Rattle.rules.specs.Frames.{earliests, latests};
-ghost use Rattle.tables.specs.Held.{tables_job};
-ghost use Rattle.tables.specs.Tables.{padded};
-
+use arrayvec::ArrayVec;
+use rules::frame::Frame;
+use std::marker::Model;
 use tables::tables::{MOST_OPERATIONS, Tables};
 
 /// What is to be planned: kinds of unit, operations, a number of steps and a latency.
@@ -13,11 +11,20 @@ use tables::tables::{MOST_OPERATIONS, Tables};
 #[derive(Drop)]
 pub struct Job {
     tables: Tables,
-    // the earliest and the latest start of each operation
-    earliest: [u16; MOST_OPERATIONS],
-    latest: [i16; MOST_OPERATIONS],
-    ghost from_earliest: { earliest ≡ padded 64 0 (earliests (tables_job tables)) },
-    ghost to_latest: { latest ≡ padded 64 (pos 0) (latests (tables_job tables)) },
+    // the frame of each operation
+    frames: ArrayVec<Frame, MOST_OPERATIONS>,
+}
+
+impl Model for Job {
+    ghost use Rattle.rules.specs.Jobs.{Job as Rows};
+    ghost use Rattle.rules.specs.Frames.{FramesOf};
+
+    ghost Value = { Rows };
+
+    ghost view = { λ j. j.tables };
+
+    ghost invariant = { λ j. FramesOf j.tables j.frames.items };
 }
 
 mod calls;
+mod work_out;

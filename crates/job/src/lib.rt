@@ -5,6 +5,7 @@ mod framed;
 
 pub use framed::Job;
 pub use rules::edit::Edit;
+pub use rules::frame::Frame;
 pub use rules::kind::{Figures, Kind};
 pub use rules::operation::Operation;
 pub use rules::refusal::{FileRefusal, Refusal};

@@ -1,9 +1,14 @@
 -- Taking the records of a file one by one, as the loader does.
-use Rattle.std.proofs.Common.{◌≡◌, ℕ, zero, suc, ◌+◌, ◌-◌, ◌*◌, ◌<◌, ◌≤◌, true, cond, ◌&&◌, eqb, ltb, List, [], ◌∷◌, length, get_or, take, drop, Some, None, Ok, Err, Result, sym, refl, ap, ◌∙◌, subst, ap₂, arith, Bor}
+use Rattle.std.proofs.Common.{◌≡◌, ℕ, zero, suc, ◌+◌, ◌-◌, ◌*◌, ◌<◌, ◌≤◌, ◌⊎◌, true, cond, ◌&&◌, eqb, ltb, List, [], ◌∷◌, length, get_or, take, drop, Some, None, Ok, Err, Result, sym, refl, ap, ◌∙◌, subst, ap₂, arith, Bor}
 use Rattle.std.proofs.lemmas.List.{length-drop, take_all}
 use Rattle.std.proofs.lemmas.Bool.{cond-true, cond-false, lt-ltb, le-ltb, eq-eqb, and_from}
-use Rattle.rules.specs.Files.{word, with_record, with_records, loaded}
-use Rattle.jobfile.specs.Records.{Split}
+use Rattle.std.proofs.lemmas.Bool.Decides.{nat_tests}
+use Rattle.rules.specs.Files.{word, edit_of, with_record, with_records, loaded}
+use Rattle.std.specs.Result.{result_ok}
+use Rattle.std.proofs.lemmas.Option.{none-some}
+use Rattle.rules.specs.declared.refusal.Refusal.{Refusal}
+use Rattle.jobfile.specs.declared.tag.Tag.{Tag}
+use Rattle.jobfile.specs.Records.{Split, Tagged}
 use Rattle.rules.specs.Jobs.{Job, fresh}
 use Rattle.rules.proofs.Reading.{after_record}
 
@@ -85,3 +90,12 @@ module _ (j : Job) (o : ℕ) where
   shorter [] s split = let z : ◌≡◌ {A = ℕ} 0 1 = cc in absurd (omega arith)
   shorter (high ∷ []) s split = let z : ◌≡◌ {A = ℕ} 0 1 = cc in absurd (omega arith)
   shorter (high ∷ (low ∷ rest)) s split = omega (arith, ap length split.2, length-drop (word high low) rest)
+
+-- the first byte is no tag
+pub untagged : (body : List ℕ) → 1 ≤ length body → (get_or body 0 0 ≡ 0) ⊎ (4 < get_or body 0 0) → None ≡ edit_of body
+untagged [] some none = absurd (omega arith)
+untagged (tag ∷ fields) some none = grind (arith, nat_tests)
+
+pub no_tag : (byte : ℕ) (r : Result Tag Refusal) → Tagged byte r → result_ok r ≡ None → (byte ≡ 0) ⊎ (4 < byte)
+no_tag byte (Ok tag) told e = absurd (none-some tag (sym e))
+no_tag byte (Err why) told e = told.1

@@ -3,3 +3,4 @@
 
 pub mod read;
 mod record;
+mod tag;

@@ -1,43 +1,51 @@
 //! The records of a job file: a length in two bytes, a tag and fields.
-ghost use Rattle.std.specs.Prelude.{◌≡◌};
+ghost use Rattle.std.specs.Prelude.{◌≡◌, ◌≤◌, length};
 ghost use Rattle.rules.specs.Files.{edit_of};
-ghost use Rattle.jobfile.specs.Records.{Split};
+ghost use Rattle.jobfile.specs.Records.{Split, Takes};
 
+use crate::tag::Tag;
 use rules::edit::Edit;
 use rules::kind::Figures;
 use rules::operation::Operation;
+use rules::refusal::Refusal;
+use tables::tables::Tables;
 
 // The edit that a record stands for, given without its length: a tag and its fields, with nothing left over.
-pub(crate) fn edit_of(body: &[u8]) -> Option<Edit>
+fn edit_of(body: &[u8]) -> Option<Edit>
     ensures { result ≡ edit_of body.now }
 {
-    match body {
-        [
-            1,
-            duration,
-            busy,
-            cap,
-            area_high,
-            area_low,
-            draw_high,
-            draw_low,
-        ] => Some(Edit::AddKind(Figures {
+    let [tag, fields @ ..] = body else {
+        return None;
+    };
+    match (Tag::try_from(*tag).ok()?, fields) {
+        (
+            Tag::Kind,
+            [
+                duration,
+                busy,
+                cap,
+                area_high,
+                area_low,
+                draw_high,
+                draw_low,
+            ],
+        ) => Some(Edit::AddKind(Figures {
             duration: *duration,
             busy: *busy,
             cap: *cap,
             area: u16::from_be_bytes([*area_high, *area_low]),
             draw: u16::from_be_bytes([*draw_high, *draw_low]),
         })),
-        [2, kind, left, right] => Some(Edit::AddOperation(Operation {
+        (Tag::Operation, [kind, left, right]) => Some(Edit::AddOperation(Operation {
             kind: *kind,
             left: *left,
             right: *right,
         })),
-        [3, steps, latency] => Some(Edit::SetLimits {
+        (Tag::Limits, [steps, latency]) => Some(Edit::SetLimits {
             steps: *steps,
             latency: *latency,
         }),
-        [4, number, cap] => Some(Edit::AddLibraryKind {
+        (Tag::LibraryKind, [number, cap]) => Some(Edit::AddLibraryKind {
             number: *number,
             cap: *cap,
         }),
@@ -46,7 +54,7 @@ pub(crate) fn edit_of(body: &[u8]) -> Option<Edit>
 }
 
 // The body of the record that the bytes begin with, and what follows it; nothing where the bytes end within the record.
-pub(crate) fn split_record(bytes: &[u8]) -> Option<(&[u8], &[u8])>
+fn split_record(bytes: &[u8]) -> Option<(&[u8], &[u8])>
     ensures { Split bytes.now result }
 {
     let [high, low, rest @ ..] = bytes else {
@@ -57,4 +65,16 @@ pub(crate) fn split_record(bytes: &[u8]) -> Option<(&[u8], &[u8])>
         return None;
     }
     Some(rest.split_at(length))
+}
+
+// Makes the edit that the first record stands for, and answers what follows it. Refused: 6 torn, 7 unknown, or what the edit is
+// refused with.
+pub(crate) fn take_record<'a>(tables: &mut Tables, bytes: &'a [u8]) -> Result<&'a [u8], Refusal>
+    requires { 1 ≤ length bytes.now }
+    ensures { Takes tables.old bytes.now result tables.new }
+{
+    let (body, after) = split_record(bytes).ok_or(Refusal::TornRecord)?;
+    let edit = edit_of(body).ok_or(Refusal::UnknownRecord)?;
+    tables.edit(edit)?;
+    Ok(after)
 }

@@ -1,4 +1,5 @@
 pub mod Meets
 pub mod Standing
 pub mod Heights
+pub mod Numbers
 pub mod Keeping

@@ -52,6 +52,11 @@ pub record Keeps (j : Job) (p : List Slot) (n : ℕ) (o : Operation) (s : Slot) 
 abbrev pub Kept : Job → List Slot → ℕ → Type 0
 Kept j p n = (o : Operation) (s : Slot) → Stands j p n o s → Keeps j p n o s
 
+-- operation n, which is o at s, is allowed by itself and keeps with the others
+pub record Fits (j : Job) (p : List Slot) (n : ℕ) (o : Operation) (s : Slot) : Type 0 where
+  pub allowed : Allowed j o s
+  pub kept : Kept j p n
+
 -- a slot for each operation of the job, in the order of their numbers, that is allowed by itself and keeps with the others
 pub record Plan (j : Job) (p : List Slot) : Type 0 where
   pub whole : length p ≡ length j.operations

@@ -1,8 +1,12 @@
 //! Plans of a job: a start and a unit for each operation. What a plan is, whether given slots are one, and the units that they take.
 #![tactic(auto)]
 
-pub mod check;
-pub mod clash;
-pub mod operation_rules;
-pub mod slot;
-pub mod units;
+mod clashes;
+mod draft;
+mod placement;
+mod slot;
+
+pub use clashes::clash;
+pub use draft::Draft;
+pub use placement::Placement;
+pub use slot::Slot;

@@ -1,34 +1,31 @@
 //! The floors of the bounds, those of `Windows` against a plain count over all windows.
-use crate::jobs::{add_operations, all, at, differential_equation, figures, plan_at_latency_4};
+use crate::jobs::{
+    PLAIN, add_operations, all, at, differential_equation, draft, plan_at_latency_4,
+};
 use bound::{Bound, Greater, Placed, Windows};
-use job::Job;
-use plan::slot::Slot;
+use job::{Figures, Job};
+use plan::{Draft, Slot};
 use std::process::Abort;
 use std::test::Fail;
 
 // How many operations of a kind are busy within steps `first` to `last` alone: an operation with a slot starts there.
-fn confined(job: &Job, placed: &[Slot], kind: u8, busy: i32, first: i32, last: i32) -> u32 {
-    let mut count = 0u32;
-    let mut number = 0u8;
-    for (i, operation) in job.operations().iter().enumerate() {
-        number = number.saturating_add(1);
-        let (earliest, latest) = match (placed.get(i), job.frame(number)) {
-            (Some(slot), _) => (slot.start as i32, slot.start as i32),
-            (None, Ok((from, to))) => (from as i32, to as i32),
-            (None, Err(_)) => (0, 0),
+fn confined(draft: Draft, kind: u8, busy: i32, first: i32, last: i32) -> usize {
+    let job = draft.job;
+    let rows = job.operations().iter().zip(job.frames()).enumerate();
+    rows.filter(|(i, (operation, frame))| {
+        let (earliest, latest) = match draft.slots.get(*i) {
+            Some(slot) => (slot.start as i32, slot.start as i32),
+            None => (frame.earliest as i32, frame.latest as i32),
         };
-        if operation.kind == kind
+        operation.kind == kind
             && earliest >= first
             && latest.saturating_add(busy).saturating_sub(1) <= last
-        {
-            count = count.saturating_add(1);
-        }
-    }
-    count
+    })
+    .count()
 }
 
 // The floor of one window: the work by the room for it on one unit, rounded up.
-fn window_floor(count: u32, busy: u32, width: u32, latency: u32) -> u32 {
+fn window_floor(count: usize, busy: usize, width: usize, latency: usize) -> usize {
     let room = if latency > 0 && latency < width {
         latency
     } else {
@@ -47,31 +44,26 @@ fn window_floor(count: u32, busy: u32, width: u32, latency: u32) -> u32 {
 }
 
 // How many operations are of a kind.
-fn of_kind(job: &Job, kind: u8) -> u32 {
-    let mut count = 0u32;
-    for operation in job.operations() {
-        if operation.kind == kind {
-            count = count.saturating_add(1);
-        }
-    }
-    count
+fn of_kind(job: &Job, kind: u8) -> usize {
+    job.operations()
+        .iter()
+        .filter(|operation| operation.kind == kind)
+        .count()
 }
 
 // The floor of `Windows`, window by window, from its rule.
-fn plain_windows(job: &Job, placed: &[Slot], kind: u8) -> u32 {
-    let busy = match job.kind(kind) {
-        Some(row) => row.busy,
-        None => 0,
-    };
-    let (steps, latency) = (job.steps() as u32, job.latency() as u32);
+fn plain_windows(draft: Draft, kind: u8) -> usize {
+    let job = draft.job;
+    let busy = job.kind(kind).map_or(0, |row| row.busy);
+    let (steps, latency) = (job.steps() as usize, job.latency() as usize);
     let mut floor = 0;
-    for first in 1..steps + 1 {
-        for last in first..steps + 1 {
-            let count = confined(job, placed, kind, busy as i32, first as i32, last as i32);
-            floor = floor.max(window_floor(count, busy as u32, last + 1 - first, latency));
+    for first in 1..=steps {
+        for last in first..=steps {
+            let count = confined(draft, kind, busy as i32, first as i32, last as i32);
+            floor = floor.max(window_floor(count, busy as usize, last + 1 - first, latency));
         }
     }
-    if latency > 0 && 2 * busy as u32 > latency {
+    if latency > 0 && 2 * busy as usize > latency {
         floor = floor.max(of_kind(job, kind));
     }
     floor
@@ -85,7 +77,7 @@ struct Shape {
     steps: u8,
 }
 
-const SHAPES: [Shape; 5] = [
+const SHAPES: &[Shape] = &[
     Shape {
         kinds: [(2, 2), (1, 1)],
         operations: &[
@@ -143,7 +135,12 @@ const SHAPES: [Shape; 5] = [
 fn job_of(shape: &Shape) -> Result<Job, Fail> {
     let mut job = Job::new();
     for (duration, busy) in shape.kinds {
-        job.add_kind(figures(duration, busy, 64, 10, 5))?;
+        job.add_kind(Figures {
+            duration,
+            busy,
+            cap: 64,
+            ..PLAIN
+        })?;
     }
     add_operations(&mut job, shape.operations)?;
     Ok(job)
@@ -161,22 +158,23 @@ fn scattered(steps: u8, seed: u8) -> [Slot; 8] {
 }
 
 // Compares the floors of both kinds, and of one that is not there, with so many operations placed.
-fn floors_agree(rt: &impl Abort, job: &Job, placed: &[Slot]) {
+fn floors_agree(rt: &impl Abort, draft: Draft) {
     for kind in 0..4 {
-        let floor = Windows.floor(job, placed, kind) as u32;
-        assert_eq!(rt; floor, plain_windows(job, placed, kind));
+        let floor = Windows.floor(draft, kind) as usize;
+        assert_eq!(rt; floor, plain_windows(draft, kind));
     }
 }
 
 #[test]
 fn windows_as_counted(rt: HostRuntime) -> Result<(), Fail> {
-    for shape in &SHAPES {
+    for shape in SHAPES {
         let mut job = job_of(shape)?;
         for latency in 0..65 {
             if job.set_limits(shape.steps, latency).is_ok() {
                 let slots = scattered(shape.steps, latency);
+                // drafts of each length, so the number is no index
                 for count in 0..slots.len() {
-                    floors_agree(&rt, &job, &slots[0..count]);
+                    floors_agree(&rt, draft(&job, &slots[0..count]));
                 }
             }
         }
@@ -187,11 +185,15 @@ fn windows_as_counted(rt: HostRuntime) -> Result<(), Fail> {
 #[test]
 fn three_operations(rt: HostRuntime) -> Result<(), Fail> {
     let mut job = Job::new();
-    job.add_kind(figures(2, 2, 4, 10, 5))?;
+    job.add_kind(Figures {
+        duration: 2,
+        busy: 2,
+        ..PLAIN
+    })?;
     add_operations(&mut job, &[(1, 0, 0), (1, 0, 0), (1, 0, 0)])?;
     for (steps, latency, floor) in [(6, 0, 1), (6, 3, 3), (6, 4, 2), (5, 0, 2)] {
         job.set_limits(steps, latency)?;
-        assert_eq!(rt; Windows.floor(&job, &[], 1), floor);
+        assert_eq!(rt; Windows.floor(draft(&job, &[]), 1), floor);
     }
     Ok(())
 }
@@ -220,31 +222,40 @@ fn bounds_pile_up(rt: HostRuntime) -> Result<(), Fail> {
         &rt,
         &[
             (
-                Placed.floor(&job, &slots[0..3], 2) == 3,
+                Placed.floor(draft(&job, &slots[0..3]), 2) == 3,
                 "three units placed",
             ),
-            (Placed.floor(&job, &slots[0..3], 1) == 0, "none placed"),
-            (Placed.floor(&job, &apart, 2) == 4, "the fourth unit placed"),
             (
-                Windows.floor(&job, &[], 2) == 2,
+                Placed.floor(draft(&job, &slots[0..3]), 1) == 0,
+                "none placed",
+            ),
+            (
+                Placed.floor(draft(&job, &apart), 2) == 4,
+                "the fourth unit placed",
+            ),
+            (
+                Windows.floor(draft(&job, &[]), 2) == 2,
                 "two multipliers by windows",
             ),
-            (both.floor(&job, &[], 2) == 2, "the second is larger"),
-            (both.floor(&job, &apart, 2) == 4, "the first is larger"),
+            (both.floor(draft(&job, &[]), 2) == 2, "the second is larger"),
             (
-                turned.floor(&job, &[], 2) == 2,
+                both.floor(draft(&job, &apart), 2) == 4,
+                "the first is larger",
+            ),
+            (
+                turned.floor(draft(&job, &[]), 2) == 2,
                 "the first is larger, turned",
             ),
             (
-                turned.floor(&job, &apart, 2) == 4,
+                turned.floor(draft(&job, &apart), 2) == 4,
                 "the second is larger, turned",
             ),
             (
-                piled.floor(&job, &[], 2) == 2,
+                piled.floor(draft(&job, &[]), 2) == 2,
                 "the largest of three, by windows",
             ),
             (
-                piled.floor(&job, &apart, 2) == 4,
+                piled.floor(draft(&job, &apart), 2) == 4,
                 "the largest of three, by units",
             ),
         ],

@@ -1,8 +1,7 @@
 //! What plans cost under `Area` and under `Ranked`.
-use crate::jobs::{all, differential_equation, figures, plan_at_latency_4};
+use crate::jobs::{PLAIN, all, differential_equation, draft, plan_at_latency_4};
 use cost::{Area, Ranked, Scheme, plan_cost};
-use job::{Job, Kind};
-use plan::units::units_of;
+use job::{Figures, Job, Kind};
 use std::test::Fail;
 
 const CEILING: u32 = 1_000_000_000;
@@ -10,7 +9,12 @@ const CEILING: u32 = 1_000_000_000;
 // The kind with this area and draw.
 fn priced(area: u16, draw: u16) -> Result<Kind, Fail> {
     let mut job = Job::new();
-    job.add_kind(figures(1, 1, 1, area, draw))?;
+    job.add_kind(Figures {
+        cap: 1,
+        area,
+        draw,
+        ..PLAIN
+    })?;
     match job.kind(1) {
         Some(kind) => Ok(kind),
         None => Err(Fail::new("no kind")),
@@ -21,24 +25,22 @@ fn priced(area: u16, draw: u16) -> Result<Kind, Fail> {
 fn known_costs(rt: HostRuntime) -> Result<(), Fail> {
     let job = differential_equation(3, 7, 4)?;
     let slots = plan_at_latency_4();
-    let rank = plan_cost(&Ranked, &job, &slots);
+    let plan = draft(&job, &slots);
+    let rank = plan_cost(&Ranked, plan);
     all(
         &rt,
         &[
-            (units_of(&job, &slots, 1) == 2, "ALUs"),
-            (units_of(&job, &slots, 2) == 3, "multipliers"),
+            (plan.units_of(1) == 2, "ALUs"),
+            (plan.units_of(2) == 3, "multipliers"),
+            (plan.units_of(3) == 0, "a kind that the job does not have"),
             (
-                units_of(&job, &slots, 3) == 0,
-                "a kind that the job does not have",
-            ),
-            (
-                units_of(&job, &slots[0..2], 2) == 2,
+                draft(&job, &slots[0..2]).units_of(2) == 2,
                 "the first two operations",
             ),
-            (plan_cost(&Area, &job, &slots) == 876, "area"),
+            (plan_cost(&Area, plan) == 876, "area"),
             (rank.area == 876 && rank.draw == 234, "area and draw"),
             (
-                plan_cost(&Area, &Job::new(), &slots) == 0,
+                plan_cost(&Area, draft(&Job::new(), &slots)) == 0,
                 "a job of no kinds",
             ),
         ],
@@ -121,6 +123,8 @@ fn ranks_compare_by_area_first(rt: HostRuntime) -> Result<(), Fail> {
                 "by draw",
             ),
             (Ranked.at_most(more, more), "itself"),
+            (small < less && less < more, "the order of ranks"),
+            (more == more && less != more, "equal ranks"),
         ],
     );
     Ok(())

@@ -1,6 +1,6 @@
 //! Jobs and plans for the tests.
 use job::{Figures, Job, Operation};
-use plan::slot::Slot;
+use plan::{Draft, Placement, Slot};
 use std::process::Abort;
 use std::test::Fail;
 
@@ -11,26 +11,33 @@ pub(crate) fn all(rt: &impl Abort, rows: &[(bool, &'static str)]) {
     }
 }
 
-pub(crate) fn operation(kind: u8) -> Operation {
-    Operation {
-        kind,
-        left: 0,
-        right: 0,
-    }
-}
-
-pub(crate) fn figures(duration: u8, busy: u8, cap: u8, area: u16, draw: u16) -> Figures {
-    Figures {
-        duration,
-        busy,
-        cap,
-        area,
-        draw,
-    }
-}
+// A kind done in one step, of which there may be 4 units.
+pub(crate) const PLAIN: Figures = Figures {
+    duration: 1,
+    busy: 1,
+    cap: 4,
+    area: 10,
+    draw: 5,
+};
 
 pub(crate) fn at(start: u8, unit: u8) -> Slot {
     Slot { start, unit }
+}
+
+// An operation of a kind, at a start and on a unit.
+pub(crate) fn placed(kind: u8, start: u8, unit: u8) -> Placement {
+    Placement {
+        operation: Operation {
+            kind,
+            left: 0,
+            right: 0,
+        },
+        slot: at(start, unit),
+    }
+}
+
+pub(crate) fn draft<'a>(job: &'a Job, slots: &'a [Slot]) -> Draft<'a> {
+    Draft { job, slots }
 }
 
 // Adds operations, each by its kind and its operands.

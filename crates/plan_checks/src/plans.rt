@@ -1,20 +1,18 @@
 //! What is a plan, and what clashes.
 use crate::jobs::{
-    all, at, differential_equation, figures, operation, pipelined_plan, plan_at_latency_4,
+    PLAIN, all, at, differential_equation, draft, pipelined_plan, placed, plan_at_latency_4,
 };
-use job::Job;
-use plan::check::is_plan;
-use plan::clash::clash;
-use plan::slot::Slot;
+use job::{Figures, Job};
+use plan::{Slot, clash};
 use std::process::Abort;
 use std::test::Fail;
 
 // Whether a plan is still one after the slot at an index, from 0, was changed.
 fn stays_a_plan(job: &Job, mut slots: [Slot; 11], index: usize, slot: Slot) -> bool {
-    if index < slots.len() {
-        slots[index] = slot;
+    if let Some(changed) = slots.get_mut(index) {
+        *changed = slot;
     }
-    is_plan(job, &slots)
+    draft(job, &slots).is_plan()
 }
 
 #[test]
@@ -25,20 +23,29 @@ fn known_plans(rt: HostRuntime) -> Result<(), Fail> {
     all(
         &rt,
         &[
-            (is_plan(&job, &slots), "a plan"),
-            (is_plan(&pipelined, &pipelined_plan()), "a pipelined plan"),
-            (!is_plan(&job, &pipelined_plan()), "the plan of another job"),
-            (!is_plan(&job, &slots[0..10]), "a slot short"),
-            (!is_plan(&job, &[]), "no slots"),
-            (is_plan(&Job::new(), &[]), "a job of no operations"),
-            (!is_plan(&Job::new(), &[at(1, 1)]), "a slot too many"),
+            (draft(&job, &slots).is_plan(), "a plan"),
+            (
+                draft(&pipelined, &pipelined_plan()).is_plan(),
+                "a pipelined plan",
+            ),
+            (
+                !draft(&job, &pipelined_plan()).is_plan(),
+                "the plan of another job",
+            ),
+            (!draft(&job, &slots[0..10]).is_plan(), "a slot short"),
+            (!draft(&job, &[]).is_plan(), "no slots"),
+            (draft(&Job::new(), &[]).is_plan(), "a job of no operations"),
+            (
+                !draft(&Job::new(), &[at(1, 1)]).is_plan(),
+                "a slot too many",
+            ),
         ],
     );
     Ok(())
 }
 
 // A changed slot, by its index, and whether there is still a plan at latency 4 and at latency 0.
-const CHANGED: [(usize, u8, u8, bool, bool); 20] = [
+const CHANGED: &[(usize, u8, u8, bool, bool)] = &[
     // before the first step, past the last, on unit 0, above the cap
     (0, 0, 1, false, false),
     (10, 8, 1, false, false),
@@ -70,14 +77,14 @@ fn changed_plans(rt: HostRuntime) -> Result<(), Fail> {
     let overlapping = differential_equation(3, 7, 4)?;
     let alone = differential_equation(3, 7, 0)?;
     for (index, start, unit, at_4, at_0) in CHANGED {
-        let slot = at(start, unit);
+        let slot = at(*start, *unit);
         assert_eq!(rt;
-            stays_a_plan(&overlapping, plan_at_latency_4(), index, slot),
-            at_4
+            stays_a_plan(&overlapping, plan_at_latency_4(), *index, slot),
+            *at_4
         );
         assert_eq!(rt;
-            stays_a_plan(&alone, plan_at_latency_4(), index, slot),
-            at_0
+            stays_a_plan(&alone, plan_at_latency_4(), *index, slot),
+            *at_0
         );
     }
     Ok(())
@@ -85,23 +92,17 @@ fn changed_plans(rt: HostRuntime) -> Result<(), Fail> {
 
 // Whether some busy step of the one is, to a unit, some busy step of the other.
 fn meet(latency: u8, busy: u8, a: u8, b: u8) -> bool {
-    for i in 0..busy {
-        for k in 0..busy {
-            let x = a as u16 + i as u16;
-            let y = b as u16 + k as u16;
-            if x == y || (latency > 0 && x % latency as u16 == y % latency as u16) {
-                return true;
-            }
-        }
-    }
-    false
+    let same_step = |x: u16, y: u16| {
+        x == y || (latency > 0 && x % latency as u16 == y % latency as u16)
+    };
+    (0..busy).any(|i| (0..busy).any(|k| same_step(a as u16 + i as u16, b as u16 + k as u16)))
 }
 
 // Compares the clash test with the rule, at every two starts up to 20.
 fn clashes_as_told(rt: &impl Abort, job: &Job, latency: u8, busy: u8) {
     for a in 1..21 {
         for b in 1..21 {
-            let told = clash(job, operation(1), at(a, 2), operation(1), at(b, 2));
+            let told = clash(job, placed(1, a, 2), placed(1, b, 2));
             assert_eq!(rt; told, meet(latency, busy, a, b));
         }
     }
@@ -111,7 +112,11 @@ fn clashes_as_told(rt: &impl Abort, job: &Job, latency: u8, busy: u8) {
 fn clashes(rt: HostRuntime) -> Result<(), Fail> {
     for busy in 1..6 {
         let mut job = Job::new();
-        job.add_kind(figures(8, busy, 4, 10, 5))?;
+        job.add_kind(Figures {
+            duration: 8,
+            busy,
+            ..PLAIN
+        })?;
         for latency in 0..12 {
             if latency == 0 || busy <= latency {
                 job.set_limits(64, latency)?;
@@ -125,15 +130,14 @@ fn clashes(rt: HostRuntime) -> Result<(), Fail> {
 #[test]
 fn no_clashes(rt: HostRuntime) -> Result<(), Fail> {
     let job = differential_equation(3, 7, 4)?;
-    let (sum, product, unknown) = (operation(1), operation(2), operation(3));
     all(
         &rt,
         &[
-            (clash(&job, sum, at(1, 1), sum, at(1, 1)), "one step"),
-            (!clash(&job, sum, at(1, 1), sum, at(1, 2)), "two units"),
-            (!clash(&job, sum, at(1, 1), product, at(1, 1)), "two kinds"),
+            (clash(&job, placed(1, 1, 1), placed(1, 1, 1)), "one step"),
+            (!clash(&job, placed(1, 1, 1), placed(1, 1, 2)), "two units"),
+            (!clash(&job, placed(1, 1, 1), placed(2, 1, 1)), "two kinds"),
             (
-                !clash(&job, unknown, at(1, 1), unknown, at(1, 1)),
+                !clash(&job, placed(3, 1, 1), placed(3, 1, 1)),
                 "a kind that the job does not have",
             ),
         ],

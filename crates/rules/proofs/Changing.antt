@@ -1,5 +1,6 @@
 -- An edit that is accepted leaves a valid job.
 use Rattle.std.proofs.Common.{◌≡◌, ℕ, zero, suc, ◌<◌, ◌≤◌, Bool, true, ◌&&◌, T, ltb, leb, List, [], ◌∷◌, ◌++◌, length, Some, Ok, Err, Result, sym, refl, ap, subst, ⊎_elim, arith, length-append}
+use Rattle.std.proofs.lemmas.Option.{none-some}
 use Rattle.std.proofs.lemmas.Bool.{and_parts, leb-true, ltb-true}
 use Rattle.std.proofs.lemmas.Bool.Decides.{nat_tests}
 use Rattle.rules.specs.declared.edit.Edit.{Edit}
@@ -11,13 +12,13 @@ use Rattle.rules.specs.Jobs.{Job, Valid, fresh, numbered}
 use Rattle.rules.specs.Library.{house_library}
 use Rattle.rules.specs.Refusals.{where_holds}
 use Rattle.rules.specs.Edits.{kind_of, kind_from, restarts, all_restart, plus_kind, plus_operation, limited, with_kind, with_operation, with_limits, edited}
-use Rattle.rules.proofs.Numbered.{none_some, nth_push}
+use Rattle.rules.proofs.Numbered.{nth_push}
 use Rattle.rules.proofs.Tests.{where_either}
 
 -- what holds of every element, with one more
 push_holds : {X : Type 0} (P : ℕ → X → Type 0) (xs : List X) (y : X) → ((n : ℕ) (x : X) → numbered xs n ≡ Some x → P n x) → P (suc (length xs)) y →
     (n : ℕ) (x : X) → numbered (xs ++ (y ∷ [])) n ≡ Some x → P n x
-push_holds P xs y old new zero x e = absurd (none_some x e)
+push_holds P xs y old new zero x e = absurd (none-some x e)
 push_holds P xs y old new (suc i) x e =
     ⊎_elim
     (λ before. old (suc i) x before)
@@ -28,8 +29,8 @@ restarts_tells : (l : ℕ) (k : Kind) → restarts l k ≡ true → 0 < l → k.
 restarts_tells l k h some = grind (arith, nat_tests)
 
 all_restart_tells : (l : ℕ) (ks : List Kind) → all_restart l ks ≡ true → (n : ℕ) (k : Kind) → numbered ks n ≡ Some k → 0 < l → k.busy ≤ l
-all_restart_tells l ks h zero k e some = absurd (none_some k e)
-all_restart_tells l [] h (suc i) k e some = absurd (none_some k e)
+all_restart_tells l ks h zero k e some = absurd (none-some k e)
+all_restart_tells l [] h (suc i) k e some = absurd (none-some k e)
 all_restart_tells l (x ∷ ks) h (suc zero) k e some =
     let same : x ≡ k = cc in
     subst (λ y. y.busy ≤ l) same (restarts_tells l x (and_parts (restarts l x) (all_restart l ks) h).0 some)
@@ -51,8 +52,8 @@ empty_valid ks os t no_kinds no_operations some few = record {
 }
   where
     none_at : (n : ℕ) (o : Operation) → numbered [] n ≡ Some o → ⊥
-    none_at zero o e = none_some o e
-    none_at (suc n) o e = none_some o e
+    none_at zero o e = none-some o e
+    none_at (suc n) o e = none-some o e
 
 pub fresh_valid : Valid fresh
 fresh_valid = empty_valid [] [] 1 refl refl (omega arith) (omega arith)

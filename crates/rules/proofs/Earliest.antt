@@ -1,5 +1,6 @@
 -- The earliest start of an operation is the greatest of 1 and of the ends of its operands at their earliest.
 use Rattle.std.proofs.Common.{◌≡◌, ℕ, zero, suc, ◌+◌, ◌<◌, ◌≤◌, max, ◌⊎◌, List, [], ◌∷◌, ◌++◌, length, get_or, Some, sym, refl, ap, ◌∙◌, subst, inl, inr, ⊎_elim, arith, length-append}
+use Rattle.std.proofs.lemmas.Option.{get_or_from_slice_get, none-some, same_Some}
 use lib.ListN.{get_or-append}
 use Rattle.std.specs.List.{slice_get}
 use Rattle.std.proofs.lemmas.List.{get_or_push}
@@ -8,8 +9,8 @@ use Rattle.std.proofs.lemmas.Bool.Decides.{nat_tests}
 use Rattle.rules.specs.declared.operation.Operation.{Operation}
 use Rattle.rules.specs.Jobs.{Job, Valid, duration_of}
 use Rattle.rules.specs.Frames.{Uses, readable, earliest, earliests_after, earliests, earliest_start, duration_at}
-use Rattle.rules.proofs.Numbered.{none_some, some_same, After, after_none, after_more, after_here}
-use Rattle.rules.proofs.Rows.{value_at, duration_held}
+use Rattle.rules.proofs.Numbered.{After, after_none, after_more, after_here}
+use Rattle.rules.proofs.Rows.{duration_held}
 
 one_of : (a b : ℕ) → (max a b ≡ a) ⊎ (max a b ≡ b)
 one_of a b = grind (arith, nat_tests)
@@ -54,7 +55,7 @@ module _ (j : Job) (valid : Valid j) where
 
   here : (n : ℕ) (ready : List ℕ) (o : Operation) (os : List Operation) → After n (earliests j) (earliests_after j ready (o ∷ os))
       → earliest_start j (suc n) ≡ earliest ready o
-  here n ready o os b = value_at (earliests j) n (earliest ready o) 0 (after_here b)
+  here n ready o os b = get_or_from_slice_get (earliests j) n (earliest ready o) 0 (after_here b)
 
   -- an operation's end, from the ends of those before it
   end_here : (n : ℕ) (ready : List ℕ) (o : Operation) → length ready ≡ n → Ready ready → slice_get j.operations n ≡ Some o
@@ -68,14 +69,14 @@ module _ (j : Job) (valid : Valid j) where
 
   worked_from : (n : ℕ) (ready : List ℕ) (os : List Operation) → length ready ≡ n → Ready ready → After n j.operations os
       → After n (earliests j) (earliests_after j ready os) → (i m : ℕ) (o : Operation) → m ≡ n + i → slice_get os i ≡ Some o → WorkedOut m o
-  worked_from n ready [] long told a b i m o at e = absurd (none_some o e)
+  worked_from n ready [] long told a b i m o at e = absurd (none-some o e)
   worked_from n ready (r ∷ os) long told a b zero m o at e =
       let same : n ≡ m = omega arith in
       record {
         ready = ready;
         long = omega arith;
         told = told;
-        start = ap (λ k. earliest_start j (suc k)) (sym same) ∙ here n ready r os b ∙ ap (earliest ready) (some_same r o e);
+        start = ap (λ k. earliest_start j (suc k)) (sym same) ∙ here n ready r os b ∙ ap (earliest ready) (same_Some r o e);
       }
   worked_from n ready (r ∷ os) long told a b (suc i) m o at e =
       let more = end_here n ready r long told (after_here a) (here n ready r os b) in
@@ -108,7 +109,7 @@ module _ (j : Job) (valid : Valid j) where
 
     pub behind_operands : (p : ℕ) → Uses j (suc n) p → end p ≤ earliest_start j (suc n)
     behind_operands p u =
-        let same : u.row ≡ o = some_same u.row o (sym u.held ∙ held) in
+        let same : u.row ≡ o = same_Some u.row o (sym u.held ∙ held) in
         let of : (o.left ≡ p) ⊎ (o.right ≡ p) = subst (λ r. (r.left ≡ p) ⊎ (r.right ≡ p)) same u.operand in
         let before = valid.earlier_operands (suc n) o held in
         omega (arith, read_before out.ready o p of, read_is p u.inside (omega arith), out.start)

@@ -1,13 +1,14 @@
 -- The latest start of an operation is the least of T - d + 1 and of what its users leave it.
 use Rattle.std.proofs.Common.{◌≡◌, ℕ, zero, suc, ◌+◌, ◌-◌, ◌<◌, true, cond, ◌⊎◌, List, [], ◌∷◌, length, ℤ, pos, ◌-ℤ◌, ◌≤ℤ◌, Some, refl, ap, ◌∙◌, subst, inl, inr, ⊎_elim, arith}
+use Rattle.std.proofs.lemmas.Option.{get_or_from_slice_get, none-some, same_Some, slice_get_within}
 use Rattle.std.specs.List.{slice_get}
 use Rattle.std.proofs.lemmas.Int.{ints}
 use Rattle.std.proofs.lemmas.Bool.Decides.{nat_tests}
 use Rattle.rules.specs.declared.operation.Operation.{Operation}
 use Rattle.rules.specs.Jobs.{Job, Valid, numbered, duration_of}
 use Rattle.rules.specs.Frames.{Uses, least, uses, before_users, last_start, latests_from, latests, latest_start, duration_at}
-use Rattle.rules.proofs.Numbered.{none_some, some_same, nth_within, within_nth, After, after_none, after_more, after_here, after_at}
-use Rattle.rules.proofs.Rows.{value_at, duration_held}
+use Rattle.rules.proofs.Numbered.{nth_within, After, after_none, after_more, after_here, after_at}
+use Rattle.rules.proofs.Rows.{duration_held}
 
 -- ---- the limit that users leave to operation m of duration d
 
@@ -34,13 +35,13 @@ before_users_le m d limit (o ∷ os) (l ∷ ls) =
 
 before_users_user : (m d : ℕ) (limit : ℤ) (os : List Operation) (ls : List ℤ) (i : ℕ) (o : Operation) (l : ℤ)
     → slice_get os i ≡ Some o → slice_get ls i ≡ Some l → uses m o ≡ true → before_users m d limit os ls ≤ℤ (l -ℤ pos d)
-before_users_user m d limit [] ls i o l e f h = absurd (none_some o e)
-before_users_user m d limit (q ∷ os) [] i o l e f h = absurd (none_some l f)
+before_users_user m d limit [] ls i o l e f h = absurd (none-some o e)
+before_users_user m d limit (q ∷ os) [] i o l e f h = absurd (none-some l f)
 before_users_user m d limit (q ∷ os) (k ∷ ls) zero o l e f h =
     let a = before_users_le m d (limit_by m d limit q k) os ls in
-    let same : uses m q ≡ true = ap (uses m) (some_same q o e) ∙ h in
+    let same : uses m q ≡ true = ap (uses m) (same_Some q o e) ∙ h in
     let b = limit_by_user m d limit q k same in
-    let c : k ≡ l = some_same k l f in
+    let c : k ≡ l = same_Some k l f in
     omega (arith, ints)
 before_users_user m d limit (q ∷ os) (k ∷ ls) (suc i) o l e f h = before_users_user m d (limit_by m d limit q k) os ls i o l e f h
 
@@ -92,14 +93,14 @@ module _ (j : Job) where
   worked_here : (n : ℕ) (o : Operation) (os : List Operation) → After n j.operations (o ∷ os)
       → After n (latests j) (latests_from j (suc n) (o ∷ os)) → WorkedOut n o
   worked_here n o os a b =
-      record { later = os; after = after_more a; starts = after_more b; start = value_at (latests j) n _ (pos 0) (after_here b) }
+      record { later = os; after = after_more a; starts = after_more b; start = get_or_from_slice_get (latests j) n _ (pos 0) (after_here b) }
 
   worked_from : (n : ℕ) (os : List Operation) → After n j.operations os → After n (latests j) (latests_from j (suc n) os)
       → (i m : ℕ) (o : Operation) → m ≡ n + i → slice_get os i ≡ Some o → WorkedOut m o
-  worked_from n [] a b i m o at e = absurd (none_some o e)
+  worked_from n [] a b i m o at e = absurd (none-some o e)
   worked_from n (r ∷ os) a b zero m o at e =
       let same : n ≡ m = omega arith in
-      subst (λ k. WorkedOut k o) same (subst (λ q. WorkedOut n q) (some_same r o e) (worked_here n r os a b))
+      subst (λ k. WorkedOut k o) same (subst (λ q. WorkedOut n q) (same_Some r o e) (worked_here n r os a b))
   worked_from n (r ∷ os) a b (suc i) m o at e = worked_from (suc n) os (after_more a) (after_more b) i m o (omega arith) e
 
   worked_out : (n : ℕ) (o : Operation) → slice_get j.operations n ≡ Some o → WorkedOut n o
@@ -126,9 +127,9 @@ module _ (j : Job) where
     ahead_at : (i : ℕ) (q : Operation) → slice_get out.later i ≡ Some q → uses (suc n) q ≡ true
         → latest_start j (suc n) ≤ℤ (latest_start j (suc (suc n + i)) -ℤ pos (duration_at j (suc n)))
     ahead_at i q e h =
-        let at : i < length later_starts = omega (arith, within_nth out.later i q e, latests_length j (suc (suc n)) out.later) in
+        let at : i < length later_starts = omega (arith, slice_get_within out.later i q e, latests_length j (suc (suc n)) out.later) in
         let l = nth_within later_starts i at in
-        let its : latest_start j (suc (suc n + i)) ≡ l.0 = value_at (latests j) (suc n + i) l.0 (pos 0) (after_at i l.0 out.starts l.1) in
+        let its : latest_start j (suc (suc n + i)) ≡ l.0 = get_or_from_slice_get (latests j) (suc n + i) l.0 (pos 0) (after_at i l.0 out.starts l.1) in
         rw (takes, out.start, its)
         (before_users_user (suc n) (duration_of j o) (last_start j (duration_of j o)) out.later later_starts i q l.0 e l.1 h)
 
@@ -150,7 +151,7 @@ module _ (j : Job) where
     met_by : LeftBy (suc n) (duration_of j o) out.later later_starts (latest_start j (suc n)) → Met
     met_by w =
         let its : latest_start j (suc (suc n + w.place)) ≡ w.start =
-        value_at (latests j) (suc n + w.place) w.start (pos 0) (after_at w.place w.start out.starts w.start_held) in
+        get_or_from_slice_get (latests j) (suc n + w.place) w.start (pos 0) (after_at w.place w.start out.starts w.start_held) in
         inr (
           suc (suc n + w.place),
           record { row = w.user; held = after_at w.place w.user out.after w.user_held; inside = omega arith; operand = operand_of (suc n) w.user w.used },

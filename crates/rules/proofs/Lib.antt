@@ -1,6 +1,5 @@
 pub mod Numbered
 pub mod Rows
-pub mod Validity
 pub mod Tests
 pub mod Figures
 pub mod Changing

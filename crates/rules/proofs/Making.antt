@@ -1,5 +1,6 @@
 -- The jobs that lists of changes make: each is valid, and each valid job is made.
 use Rattle.std.proofs.Common.{◌≡◌, ℕ, zero, suc, ◌+◌, ◌<◌, ◌≤◌, true, List, [], ◌∷◌, ◌++◌, map, length, Some, Ok, Err, Result, sym, refl, ap, ◌∙◌, append_assoc, append-nil, arith, length-append}
+use Rattle.std.proofs.lemmas.Option.{none-some}
 use Rattle.std.proofs.lemmas.Bool.{and_from, le-leb}
 use Rattle.std.proofs.lemmas.Bool.Decides.{nat_tests}
 use Rattle.rules.specs.declared.edit.Edit.TheVariants.{AddKind, AddOperation, SetLimits}
@@ -9,7 +10,6 @@ use Rattle.rules.specs.Jobs.{Job, Valid, fresh, numbered}
 use Rattle.rules.specs.Edits.{restarts, all_restart, plus_kind, plus_operation, limited, with_kind, with_operation, with_limits, edited}
 use Rattle.rules.specs.Files.{figures, loaded}
 use Rattle.rules.specs.Changes.{Change, edit, load, unless_refused, changed, after, RangesAreExact}
-use Rattle.rules.proofs.Numbered.{none_some}
 use Rattle.rules.proofs.Figures.{kind_of_kind}
 use Rattle.rules.proofs.Outcomes.{kind_taken, limits_taken, operation_taken, was_accepted}
 use Rattle.rules.proofs.Changing.{of_kinds, of_operations, LeavesValid, fresh_valid, edited_valid}
@@ -61,7 +61,7 @@ all_restart_from l (x ∷ ks) h = and_from (restarts l x) (all_restart l ks) (fi
     first fast = grind (arith, nat_tests)
 
     later : (n : ℕ) (k : Kind) → numbered ks n ≡ Some k → 0 < l → k.busy ≤ l
-    later zero k e some = absurd (none_some k e)
+    later zero k e some = absurd (none-some k e)
     later (suc i) k e some = h (suc (suc i)) k e some
 
 limits_accepted : (j : Job) (t l : ℕ) → 1 ≤ t → t ≤ 64 → l ≤ 64 → all_restart l j.kinds ≡ true → changed j (edit (SetLimits t l)) ≡ limited j t l
@@ -106,12 +106,12 @@ follow_later j o os f = record {
     more = length-append j.operations (o ∷ [])
 
     later_kind : (n : ℕ) (x : Operation) → numbered os n ≡ Some x → (1 ≤ x.kind) × (x.kind ≤ length j.kinds)
-    later_kind zero x e = absurd (none_some x e)
+    later_kind zero x e = absurd (none-some x e)
     later_kind (suc i) x e = f.held_kind (suc (suc i)) x e
 
     later_operands : (n : ℕ) (x : Operation) → numbered os n ≡ Some x →
         (x.left < length (j.operations ++ (o ∷ [])) + n) × (x.right < length (j.operations ++ (o ∷ [])) + n)
-    later_operands zero x e = absurd (none_some x e)
+    later_operands zero x e = absurd (none-some x e)
     later_operands (suc i) x e = let old = f.earlier (suc (suc i)) x e in (omega (arith, more), omega (arith, more))
 
 operations_made : (j : Job) (os : List Operation) → Follow j os → after j (map add_operation os) ≡ of_operations j (j.operations ++ os)

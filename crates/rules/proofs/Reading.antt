@@ -1,5 +1,6 @@
 -- A job file is read record by record to its end, and what it loads is a valid job.
 use Rattle.std.proofs.Common.{◌≡◌, ℕ, zero, suc, ◌+◌, ◌<◌, ◌≤◌, true, false, ◌&&◌, eqb, ltb, ◌⊎◌, List, [], ◌∷◌, length, get_or, take, drop, Some, None, Ok, Err, Option, Result, sym, refl, ap, ◌∙◌, subst, inl, inr, arith, length-drop, take-append-drop, length-take-le}
+use Rattle.std.proofs.lemmas.Option.{none-some, same_Some}
 use Rattle.std.proofs.lemmas.Bool.{cond_both, ltb-true, ltb-false, and_parts, eqb-true}
 use Rattle.std.proofs.lemmas.Bool.Decides.{nat_tests}
 use Rattle.rules.specs.declared.edit.Edit.{Edit}
@@ -27,7 +28,6 @@ use Rattle.rules.specs.Files.{
   no_file,
   records,
 }
-use Rattle.rules.proofs.Numbered.{none_some, some_same}
 use Rattle.rules.proofs.Changing.{LeavesValid, edited_valid, fresh_valid}
 
 -- ---- the edit that a record stands for
@@ -48,7 +48,7 @@ read_all (suc n) [] h = absurd (omega arith)
 read_all (suc n) (x ∷ xs) h = ap (λ rest. x ∷ rest) (read_later n 0 x xs ∙ read_all n xs (omega arith))
 
 stands : (body : List ℕ) (e : Edit) → edit_of body ≡ Some e → StandsFor body e
-stands [] e h = absurd (none_some e h)
+stands [] e h = absurd (none-some e h)
 stands (tag ∷ fs) e h =
     cond_both (eqb tag 1 && eqb (length fs) 7) _ _ P
     (fits 1 7 _ (kind _ _ _ _ _ _ _))
@@ -58,7 +58,7 @@ stands (tag ∷ fs) e h =
     (fits 3 2 _ (limits _ _))
     (λ _. cond_both (eqb tag 4 && eqb (length fs) 2) _ _ P
     (fits 4 2 _ (library_kind _ _))
-    (λ _ g. absurd (none_some e g))))) h
+    (λ _ g. absurd (none-some e g))))) h
   where
     P : Option Edit → Type 0
     P o = o ≡ Some e → StandsFor (tag ∷ fs) e
@@ -66,7 +66,7 @@ stands (tag ∷ fs) e h =
     fits : (n size : ℕ) (x : Edit) → StandsFor (n ∷ read_from size 0 fs) x → (eqb tag n && eqb (length fs) size) ≡ true → Some x ≡ Some e → StandsFor (tag ∷ fs) e
     fits n size x s test same =
         let both = and_parts (eqb tag n) (eqb (length fs) size) test in
-        subst (λ y. StandsFor (tag ∷ fs) y) (some_same x e same)
+        subst (λ y. StandsFor (tag ∷ fs) y) (same_Some x e same)
         (subst (λ t. StandsFor (t ∷ fs) x) (sym (eqb-true tag n both.0))
         (subst (λ ys. StandsFor (n ∷ ys) x) (read_all size fs (eqb-true (length fs) size both.1)) s))
 
@@ -85,7 +85,7 @@ says : (body : List ℕ) → Says body (edit_of body)
 says body = go (edit_of body) refl
   where
     go : (o : Option Edit) → edit_of body ≡ o → Says body o
-    go None h = λ e s. none_some e (sym h ∙ stood s)
+    go None h = λ e s. none-some e (sym h ∙ stood s)
     go (Some e) h = stands body e h
 
 -- ---- the records

@@ -1,5 +1,6 @@
 -- What an edit makes of a job, and when it is refused. The edit and the job alone decide.
-use Rattle.std.specs.Prelude.{◌≡◌, ℕ, Bool, true, ◌&&◌, ◌||◌, List, [], ◌∷◌, ◌++◌, length, Some, None, Ok, Err, Option, Result, ◌==◌, nat_le, nat_lt}
+use Rattle.std.specs.Prelude.{◌≡◌, ℕ, Bool, ◌&&◌, ◌||◌, List, [], ◌∷◌, ◌++◌, length, Some, None, Ok, Err, Option, Result, ◌==◌, nat_le, nat_lt}
+use Rattle.std.specs.List.{list_all}
 use Rattle.std.proofs.Common.{lit≤}
 use Rattle.rules.specs.declared.edit.Edit.{Edit}
 use Rattle.rules.specs.declared.edit.Edit.TheVariants.{AddKind, AddLibraryKind, AddOperation, SetLimits}
@@ -55,8 +56,7 @@ abbrev pub restarts : ℕ → Kind → Bool
 restarts l k = l == 0 || nat_le k.busy l
 
 abbrev pub all_restart : ℕ → List Kind → Bool
-all_restart l [] = true
-all_restart l (k ∷ ks) = restarts l k && all_restart l ks
+all_restart l ks = list_all (restarts l) ks
 
 abbrev pub plus_kind : Job → Kind → Job
 plus_kind j k = record { kinds = j.kinds ++ (k ∷ []); operations = j.operations; steps = j.steps; latency = j.latency }

@@ -1,5 +1,7 @@
 -- The frame of an operation: its earliest and its latest start, which may be zero or negative.
-use Rattle.std.specs.Prelude.{◌≡◌, ℕ, zero, suc, pred, ◌+◌, ◌≤◌, max, Bool, cond, ◌&&◌, ◌||◌, ◌⊎◌, List, [], ◌∷◌, ◌++◌, length, ℤ, pos, ◌+ℤ◌, ◌-ℤ◌, ◌≤ℤ◌, Some, None, Ok, Result, ◌==◌, int_le, nat_le, slice_index, slice_index_or}
+use Rattle.std.specs.Prelude.{◌≡◌, ℕ, zero, suc, pred, ◌+◌, ◌≤◌, max, Bool, cond, ◌&&◌, ◌||◌, ◌⊎◌, List, [], ◌∷◌, ◌++◌, length, map, ℤ, pos, ◌+ℤ◌, ◌-ℤ◌, ◌≤ℤ◌, Some, Ok, Result, ◌==◌, int_le, nat_le, slice_index, slice_index_or}
+use Rattle.std.specs.Option.{option_map_or}
+use Rattle.rules.specs.declared.frame.Frame.{Frame}
 use Rattle.rules.specs.declared.operation.Operation.{Operation}
 use Rattle.rules.specs.declared.refusal.Refusal.TheVariants.{UnknownOperation}
 use Rattle.rules.specs.Jobs.{Job, numbered, duration_of}
@@ -53,6 +55,11 @@ latests_from j n (o ∷ os) =
 abbrev pub latests : Job → List ℤ
 latests j = latests_from j 1 j.operations
 
+-- the frame of each operation
+pub record FramesOf (j : Job) (fs : List Frame) : Type 0 where
+  pub earliest : map (λ f. f.earliest) fs ≡ earliests j
+  pub latest : map (λ f. f.latest) fs ≡ latests j
+
 -- ---- the question
 
 abbrev pub earliest_start : Job → ℕ → ℕ
@@ -72,7 +79,7 @@ frame_of j n = where_holds (holds j n) UnknownOperation (λ _. Ok (pos (earliest
 
 -- the duration of operation n, 0 if it is not held
 abbrev pub duration_at : Job → ℕ → ℕ
-duration_at j n = elim (numbered j.operations n) [ Some o ↦ duration_of j o | None ↦ 0 ]
+duration_at j n = option_map_or (duration_of j) (numbered j.operations n) 0
 
 -- operation `user` has operation `used` as an operand
 pub record Uses (j : Job) (user used : ℕ) : Type 0 where

@@ -1,6 +1,7 @@
 -- A job: what is to be planned. Kinds and operations are numbered from 1.
 use Rattle.std.specs.Prelude.{◌≡◌, ℕ, zero, suc, ◌<◌, ◌≤◌, List, [], length, Some, None, Option}
 use Rattle.std.specs.List.{slice_get}
+use Rattle.std.specs.Option.{option_map_or}
 use Rattle.rules.specs.declared.kind.Kind.{Kind}
 use Rattle.rules.specs.declared.operation.Operation.{Operation}
 
@@ -21,7 +22,7 @@ numbered xs (suc i) = slice_get xs i
 
 -- a figure of the kind numbered k, and 0 where there is none
 abbrev pub figure : (Kind → ℕ) → List Kind → ℕ → ℕ
-figure f ks k = elim (numbered ks k) [ Some kind ↦ f kind | None ↦ 0 ]
+figure f ks k = option_map_or f (numbered ks k) 0
 
 abbrev pub duration_of : Job → Operation → ℕ
 duration_of j o = figure (λ k. k.duration) j.kinds o.kind

@@ -3,7 +3,8 @@ use crate::kind::Figures;
 use crate::operation::Operation;
 
 /// One change of a job. A record of a job file stands for one.
-#[derive(Clone, Copy)]
+// Numbers with their names, apart, and 0 for no latency: so the records of a job file and the calls lay them down.
+#[derive(Clone, Copy, PartialEq, Eq, Debug)]
 pub enum Edit {
     /// Adds a kind by its figures.
     AddKind(Figures),

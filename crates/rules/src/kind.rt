@@ -6,7 +6,7 @@ const LONGEST_DURATION: u8 = 8;
 const MOST_UNITS: u8 = 64;
 
 /// The figures of a kind as a caller gives them, not tested yet.
-#[derive(Clone, Copy)]
+#[derive(Clone, Copy, PartialEq, Eq, Debug)]
 pub struct Figures {
     /// A result may be used so many steps after its start.
     pub duration: u8,
@@ -21,7 +21,7 @@ pub struct Figures {
 }
 
 /// A kind of unit, whose figures keep their ranges.
-#[derive(Clone, Copy)]
+#[derive(Clone, Copy, PartialEq, Eq, Debug)]
 pub struct Kind {
     pub duration: u8,
     pub busy: u8,

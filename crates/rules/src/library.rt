@@ -5,11 +5,12 @@ ghost use Rattle.rules.specs.Edits.{kind_from};
 ghost use Rattle.rules.specs.Library.{house_library, with_cap};
 ghost use Rattle.rules.specs.Refusals.{told};
 
+use crate::by_number::numbered;
 use crate::kind::{Figures, Kind};
 use crate::refusal::Refusal;
 
 /// A unit of the library: the figures of a kind but for its cap.
-#[derive(Clone, Copy)]
+#[derive(Clone, Copy, PartialEq, Eq, Debug)]
 pub struct LibraryUnit {
     pub duration: u8,
     pub busy: u8,
@@ -49,7 +50,7 @@ const HOUSE_LIBRARY: [LibraryUnit; 4] = [
 ];
 
 impl LibraryUnit {
-    // The figures of a kind: the unit's, with a cap.
+    // The figures of a kind: the unit's, with a cap. No `From`, since the cap comes beside the unit.
     fn with_cap(self, cap: u8) -> Figures
         ensures { result ≡ with_cap self cap }
     {
@@ -67,19 +68,13 @@ impl LibraryUnit {
 fn house_unit(number: u8) -> Option<LibraryUnit>
     ensures { result ≡ numbered house_library number }
 {
-    let n = number as usize;
-    if n == 0 || n > HOUSE_LIBRARY.len() {
-        return None;
-    }
-    Some(HOUSE_LIBRARY[n - 1])
+    numbered(&HOUSE_LIBRARY, number)
 }
 
 /// The unit of the house library with this number, from 1, as a kind with a cap. Refused: 4 no such number, 1 a cap out of its range.
 pub fn library_kind(number: u8, cap: u8) -> Result<Kind, Refusal>
     ensures { told result ≡ kind_from (numbered house_library number) cap }
 {
-    let Some(unit) = house_unit(number) else {
-        return Err(Refusal::UnknownLibraryUnit);
-    };
-    unit.with_cap(cap).kind()
+    let unit = house_unit(number).ok_or(Refusal::UnknownLibraryUnit)?;
+    Kind::try_from(unit.with_cap(cap))
 }

@@ -1,32 +1,28 @@
--- The latest starts: how they are worked out from the last operation back, and their range.
-use Rattle.std.proofs.Common.{◌≡◌, ℕ, zero, suc, ◌+◌, ◌-◌, ◌*◌, ◌<◌, ◌≤◌, true, false, cond, ◌⊎◌, List, [], ◌∷◌, length, get_or, take, drop, set, ℤ, pos, ◌+ℤ◌, ◌-ℤ◌, ◌≤ℤ◌, sym, ap, ◌∙◌, subst, ap₂, arith}
+-- The latest starts, worked out from the last operation back, and their range.
+use Rattle.std.proofs.lemmas.List.{append-nil, append_assoc, length-append, length_push}
+use Rattle.std.proofs.Math.Seq.{drop-append-add}
+use Rattle.rules.proofs.Latest.{latests_length}
+use Rattle.std.proofs.Common.{◌≡◌, ℕ, suc, ◌+◌, ◌*◌, ◌<◌, ◌≤◌, true, false, cond, ◌⊎◌, inl, inr, List, [], ◌∷◌, ◌++◌, drop, length, ℤ, pos, ◌+ℤ◌, ◌-ℤ◌, ◌≤ℤ◌, sym, refl, ap, ap₂, ◌∙◌, subst, arith}
 use Rattle.std.specs.Int.{int_min}
-use Rattle.std.proofs.lemmas.List.{drop_more, drop_all, drop-take, drop-set, get_or-drop, get_or-take, length-drop, length-take}
-use Rattle.std.proofs.lemmas.Int.{ints}
 use Rattle.std.proofs.lemmas.Bool.{cond-true, cond-false}
+use Rattle.std.proofs.lemmas.Int.{ints}
 use Rattle.std.proofs.lemmas.Bool.Decides.{nat_tests}
 use Rattle.rules.specs.declared.operation.Operation.{Operation}
-use Rattle.rules.specs.Jobs.{Job, Valid, duration_of}
+use Rattle.rules.specs.Jobs.{Job, duration_of}
 use Rattle.rules.specs.Frames.{least, uses, before_users, last_start, latests_from, latests}
 use Rattle.rules.proofs.Durations.{duration_short}
 
-module _ (n d : ℕ) (os : List Operation) (starts : List ℤ) where
-  -- one more row that may use operation n
-  pub users_more : (limit next : ℤ) (q : ℕ) (e : Operation) → q < length os → length os ≤ length starts
-      → next ≡ cond (uses n (get_or os q e)) (least limit (get_or starts q (pos 0) -ℤ pos d)) limit
-      → before_users n d next (drop (q + 1) os) (drop (q + 1) (take (length os) starts)) ≡ before_users n d limit (drop q os) (drop q (take (length os) starts))
-  users_more limit next q e h few is =
-      let zs : List ℤ = take (length os) starts in
-      let k : q < length zs = simp length-take (omega arith) in
-      let at : get_or zs q (pos 0) ≡ get_or starts q (pos 0) = get_or-take (length os) starts q (pos 0) h in
-      let Next : ℤ → ℤ = λ z. before_users n d (cond (uses n (get_or os q e)) (least limit (z -ℤ pos d)) limit) (drop (q + 1) os) (drop (q + 1) zs) in
-      ap (λ z. before_users n d z (drop (q + 1) os) (drop (q + 1) zs)) is
-      ∙ ap Next (sym at)
-      ∙ sym (ap (before_users n d limit (get_or os q e ∷ drop (q + 1) os)) (drop_more zs q (pos 0) k))
-      ∙ sym (ap (λ xs. before_users n d limit xs (drop q zs)) (drop_more os q e h))
+-- one more row that may use operation n
+pub users_more : (n d : ℕ) (o : Operation) (limit next z : ℤ) (rows os : List Operation) (starts zs : List ℤ) → rows ≡ o ∷ os → starts ≡ z ∷ zs
+    → next ≡ cond (uses n o) (least limit (z -ℤ pos d)) limit → before_users n d next os zs ≡ before_users n d limit rows starts
+users_more n d o limit next z rows os starts zs first second is =
+    ap (λ l. before_users n d l os zs) is ∙ sym (ap₂ (before_users n d limit) first second)
 
-  users_all : (limit : ℤ) (q : ℕ) → length os ≤ q → before_users n d limit (drop q os) (drop q (take (length os) starts)) ≡ limit
-  users_all limit q h = ap (λ xs. before_users n d limit xs (drop q (take (length os) starts))) (drop_all q os h)
+pub users_done : (n d : ℕ) (limit : ℤ) (rows : List Operation) (starts : List ℤ) → (rows ≡ []) ⊎ (starts ≡ []) → before_users n d limit rows starts ≡ limit
+users_done n d limit [] starts none = refl
+users_done n d limit (o ∷ os) [] none = refl
+users_done n d limit (o ∷ os) (z ∷ zs) (inl none) = absurd (cc)
+users_done n d limit (o ∷ os) (z ∷ zs) (inr none) = absurd (cc)
 
 -- the limit after one row whose latest start is z
 module _ (n d : ℕ) (o : Operation) (limit next z : ℤ) where
@@ -42,18 +38,13 @@ module _ (n d : ℕ) (o : Operation) (limit next z : ℤ) where
       is ∙ sym (cond-false (uses n o) (least limit (z -ℤ pos d)) limit none)
 
 -- each z lies from -low to 65
-abbrev Within : ℕ → List ℤ → Type 0
+abbrev pub Within : ℕ → List ℤ → Type 0
 Within low [] = Unit {0}
 Within low (z ∷ zs) = (pos 0 ≤ℤ (z +ℤ pos low)) × (z ≤ℤ pos 65) × Within low zs
 
-within_lower : (low lower : ℕ) (zs : List ℤ) → low ≤ lower → Within low zs → Within lower zs
+pub within_lower : (low lower : ℕ) (zs : List ℤ) → low ≤ lower → Within low zs → Within lower zs
 within_lower low lower [] h w = tt
 within_lower low lower (z ∷ zs) h w = (omega (arith, ints, w.0), w.1, within_lower low lower zs h w.2)
-
-within_at : (low : ℕ) (zs : List ℤ) (i : ℕ) (e : ℤ) → i < length zs → Within low zs → (pos 0 ≤ℤ (get_or zs i e +ℤ pos low)) × (get_or zs i e ≤ℤ pos 65)
-within_at low [] i e h w = absurd (omega arith)
-within_at low (z ∷ zs) zero e h w = (w.0, w.1)
-within_at low (z ∷ zs) (suc i) e h w = within_at low zs i e (omega arith) w.2
 
 limit_low : (n d low : ℕ) (limit z : ℤ) (o : Operation) → d ≤ 8 → pos 0 ≤ℤ (limit +ℤ pos (low + 8)) → pos 0 ≤ℤ (z +ℤ pos low)
     → pos 0 ≤ℤ (cond (uses n o) (least limit (z -ℤ pos d)) limit +ℤ pos (low + 8))
@@ -70,7 +61,7 @@ users_within n d low limit (o ∷ os) (z ∷ zs) short h k w =
     users_within n d low (cond (uses n o) (least limit (z -ℤ pos d)) limit) os zs short (limit_low n d low limit z o short h w.0) (limit_high n d limit z o k) w.2
 
 -- a latest start falls by at most 8 from one operation to an earlier one
-latests_within : (j : Job) → 1 ≤ j.steps → j.steps ≤ 64 → (n : ℕ) (os : List Operation) → Within (8 * length os) (latests_from j n os)
+pub latests_within : (j : Job) → 1 ≤ j.steps → j.steps ≤ 64 → (n : ℕ) (os : List Operation) → Within (8 * length os) (latests_from j n os)
 latests_within j some few n [] = tt
 latests_within j some few n (o ∷ os) =
     let d : ℕ = duration_of j o in
@@ -81,77 +72,33 @@ latests_within j some few n (o ∷ os) =
     let P : ℕ → Type 0 = λ b. Within b (latests_from j n (o ∷ os)) in
     subst P low (here.0, here.1, within_lower (8 * length os) (8 * length os + 8) (latests_from j (suc n) os) (omega arith) later)
 
--- a start that is known already
-pub start_within : (j : Job) (i q : ℕ) (starts : List ℤ) → Valid j → drop (i + 1) (take (length j.operations) starts) ≡ latests_from j (i + 2) (drop (i + 1) j.operations)
-    → i < q → q < length j.operations → length starts ≡ 64 → (pos 0 ≤ℤ (get_or starts q (pos 0) +ℤ pos 512)) × (get_or starts q (pos 0) ≤ℤ pos 65)
-start_within j i q starts valid e h l whole =
-    let n : ℕ = length j.operations in
-    let few : n ≤ 64 = valid.few_operations in
-    let os : List Operation = drop (i + 1) j.operations in
-    let short : length os ≤ 64 = simp length-drop (omega arith) in
-    let W : List ℤ → Type 0 = λ zs. Within 512 zs in
-    let w : Within 512 (drop (i + 1) (take n starts)) = subst W (sym e) (within_lower (8 * length os) 512 (latests_from j (i + 2) os) (omega arith) (latests_within j valid.some_steps valid.few_steps (i + 2) os)) in
-    let there : q - (i + 1) < length (drop (i + 1) (take n starts)) = simp (length-drop, length-take) (omega arith) in
-    let place : i + 1 + (q - (i + 1)) ≡ q = omega arith in
-    let same : get_or (drop (i + 1) (take n starts)) (q - (i + 1)) (pos 0) ≡ get_or starts q (pos 0) =
-    get_or-drop (i + 1) (take n starts) (q - (i + 1)) (pos 0) ∙ ap (λ k. get_or (take n starts) k (pos 0)) place ∙ get_or-take n starts q (pos 0) l in
-    let P : ℤ → Type 0 = λ z. (pos 0 ≤ℤ (z +ℤ pos 512)) × (z ≤ℤ pos 65) in
-    subst P same (within_at 512 (drop (i + 1) (take n starts)) (q - (i + 1)) (pos 0) there w)
+-- The operations before some others, and the latest starts of these.
+pub record Behind (j : Job) (before : List Operation) (starts : List ℤ) : Type 0 where
+  pub later : List Operation
+  pub parts : before ++ later ≡ j.operations
+  pub known : starts ≡ latests_from j (length before + 1) later
 
--- the latest start of one operation, in front of those of the later ones
-latest_ahead : (j : Job) (os : List Operation) (zs : List ℤ) (i : ℕ) (e : Operation) (z : ℤ) → i < length os → zs ≡ latests_from j (i + 2) (drop (i + 1) os)
-    → z ≡ before_users (i + 1) (duration_of j (get_or os i e)) (last_start j (duration_of j (get_or os i e))) (drop (i + 1) os) zs
-    → z ∷ latests_from j (i + 2) (drop (i + 1) os) ≡ latests_from j (i + 1) (drop i os)
-latest_ahead j os zs i e z h known is =
-    let d : ℕ = duration_of j (get_or os i e) in
-    let next : i + 2 ≡ suc (i + 1) = omega arith in
-    let F : ℕ → List ℤ = λ m. latests_from j m (drop (i + 1) os) in
-    ap₂ (λ y ys. y ∷ ys) (is ∙ ap (before_users (i + 1) d (last_start j d) (drop (i + 1) os)) (known ∙ ap F next)) (ap F next)
-    ∙ sym (ap (latests_from j (i + 1)) (drop_more os i e h))
+pub behind_all : (j : Job) (before : List Operation) (starts : List ℤ) → before ≡ j.operations → starts ≡ [] → Behind j before starts
+behind_all j before starts all none = record { later = []; parts = append-nil before ∙ all; known = none }
 
--- .. where the loop has come to the end of the rows
-pub latest_found : (j : Job) (rows : List Operation) (starts : List ℤ) (i q : ℕ) (e : Operation) (z : ℤ) → rows ≡ j.operations → i < length rows
-    → drop (i + 1) (take (length j.operations) starts) ≡ latests_from j (i + 2) (drop (i + 1) j.operations)
-    → length rows ≤ q
-    → before_users (i + 1) (duration_of j (get_or rows i e)) z (drop q rows) (drop q (take (length rows) starts)) ≡ before_users (i + 1) (duration_of j (get_or rows i e)) (last_start j (duration_of j (get_or rows i e))) (drop (i + 1) rows) (drop (i + 1) (take (length rows) starts))
-    → z ∷ latests_from j (i + 2) (drop (i + 1) j.operations) ≡ latests_from j (i + 1) (drop i j.operations)
-latest_found j rows starts i q e z same h known all inv =
-    let d : ℕ = duration_of j (get_or rows i e) in
-    let K : List Operation → Type 0 = λ os. drop (i + 1) (take (length os) starts) ≡ latests_from j (i + 2) (drop (i + 1) os) in
-    let G : List Operation → Type 0 = λ os. z ∷ latests_from j (i + 2) (drop (i + 1) os) ≡ latests_from j (i + 1) (drop i os) in
-    subst G same
-    (latest_ahead j rows (drop (i + 1) (take (length rows) starts)) i e z h (subst K (sym same) known)
-    (sym (users_all (i + 1) d rows starts z q all) ∙ inv))
+module _ {j : Job} {whole : List Operation} {starts : List ℤ} (b : Behind j whole starts) (before : List Operation) (o : Operation) (last : whole ≡ before ++ (o ∷ [])) where
+  parts_here : before ++ (o ∷ b.later) ≡ j.operations
+  parts_here = sym (append_assoc before (o ∷ []) b.later) ∙ ap (λ os. os ++ b.later) (sym last) ∙ b.parts
 
-drop_take_set : {X : Type 0} (xs : List X) (n i : ℕ) (y : X) → i < n → n ≤ length xs → drop i (take n (set xs i y)) ≡ y ∷ drop (i + 1) (take n xs)
-drop_take_set xs n i y h few =
-    let m : ℕ = n - (i + 1) in
-    let from : n ≡ i + suc m = omega arith in
-    let behind : n ≡ i + 1 + m = omega arith in
-    ap (λ k. drop i (take k (set xs i y))) from
-    ∙ drop-take i (suc m) (set xs i y)
-    ∙ ap (take (suc m)) (drop-set xs i y (omega arith))
-    ∙ ap (λ ys. y ∷ ys) (sym (ap (λ k. drop (i + 1) (take k xs)) behind ∙ drop-take (i + 1) m xs))
+  later_rows : drop (length before + 1) j.operations ≡ b.later
+  later_rows = ap (drop (length before + 1)) (sym parts_here) ∙ drop-append-add before (o ∷ b.later) 1
 
--- the latest starts from operation i on, counted from 0, stand in `starts`
-abbrev pub Known : Job → List ℤ → ℕ → Type 0
-Known j starts i = drop i (take (length j.operations) starts) ≡ latests_from j (i + 1) (drop i j.operations)
+  pub known_here : starts ≡ latests_from j (length before + 1 + 1) (drop (length before + 1) j.operations)
+  known_here =
+      b.known ∙ ap₂ (λ n os. latests_from j (n + 1) os) (ap length last ∙ length_push before o) (sym later_rows)
 
-module _ (j : Job) (starts : List ℤ) where
-  pub known_none : (i : ℕ) → length j.operations ≤ i → Known j starts i
-  known_none i h =
-      drop_all i (take (length j.operations) starts) (simp length-take (omega arith))
-      ∙ sym (ap (latests_from j (i + 1)) (drop_all i j.operations h))
+  pub fewer : length starts < length j.operations
+  fewer =
+      let same : length starts ≡ length b.later = ap length b.known ∙ latests_length j (length whole + 1) b.later in
+      omega (arith, same, ap length parts_here, length-append before (o ∷ b.later))
 
-  pub known_later : (i : ℕ) → Known j starts (i + 1) → drop (i + 1) (take (length j.operations) starts) ≡ latests_from j (i + 2) (drop (i + 1) j.operations)
-  known_later i known =
-      let next : i + 1 + 1 ≡ i + 2 = omega arith in
-      known ∙ ap (λ m. latests_from j m (drop (i + 1) j.operations)) next
+  pub behind_more : (z : ℤ) → z ∷ starts ≡ latests_from j (length before + 1) (o ∷ drop (length before + 1) j.operations) → Behind j before (z ∷ starts)
+  behind_more z is = record { later = o ∷ b.later; parts = parts_here; known = is ∙ ap (λ os. latests_from j (length before + 1) (o ∷ os)) later_rows }
 
-  pub known_more : (i : ℕ) (z : ℤ) → i < length j.operations → length j.operations ≤ length starts → Known j starts (i + 1)
-      → z ∷ latests_from j (i + 2) (drop (i + 1) j.operations) ≡ latests_from j (i + 1) (drop i j.operations) → Known j (set starts i z) i
-  known_more i z h few known is = drop_take_set starts (length j.operations) i z h few ∙ ap (λ zs. z ∷ zs) (known_later i known) ∙ is
-
-  pub known_all : (i : ℕ) → i ≤ 0 → Known j starts i → take (length j.operations) starts ≡ latests j
-  known_all zero h known = known
-  known_all (suc i) h known = absurd (omega arith)
+pub behind_none : {j : Job} {before : List Operation} {starts : List ℤ} → Behind j before starts → before ≡ [] → starts ≡ latests j
+behind_none {j} b none = b.known ∙ ap₂ (λ os rest. latests_from j (length os + 1) rest) none (sym (ap (λ os. os ++ b.later) none) ∙ b.parts)

@@ -1,3 +1,2 @@
-mod EarliestLoop
-mod LatestLoop
-pub mod Padded
+pub mod EarliestLoop
+pub mod LatestLoop

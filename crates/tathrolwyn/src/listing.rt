@@ -9,8 +9,7 @@ pub(crate) struct Listing<'a> {
 
 impl Listing<'_> {
     fn kinds<W: fmt::Write>(&self, f: &mut fmt::Formatter<W>) -> fmt::Result {
-        for (i, kind) in self.job.kinds().iter().enumerate() {
-            let number = i.saturating_add(1);
+        for (number, kind) in (1..).zip(self.job.kinds()) {
             let duration = kind.duration;
             let busy = kind.busy;
             let cap = kind.cap;

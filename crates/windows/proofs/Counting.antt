@@ -1,8 +1,8 @@
 -- How many stays a window holds.
-use Rattle.std.proofs.Common.{◌≡◌, ℕ, zero, suc, ◌+◌, ◌-◌, ◌<◌, ◌≤◌, Bool, false, cond, ◌&&◌, eqb, ltb, leb, List, [], ◌∷◌, length, get_or, take, set, sum, count_by, sym, refl, ap, ◌∙◌, ap₂, arith}
+use Rattle.std.proofs.Common.{◌≡◌, ℕ, zero, suc, ◌+◌, ◌<◌, ◌≤◌, Bool, false, cond, ◌&&◌, eqb, ltb, leb, List, [], ◌∷◌, length, get_or, take, set, sum, count_by, sym, refl, ap, ◌∙◌, ap₂, arith}
 use Rattle.std.specs.List.{AllByRecursion}
 use Rattle.std.proofs.lemmas.List.{take_all}
-use Rattle.std.proofs.lemmas.List.Sums.{sum_by-cons, sum_by_more, count_by-le-length}
+use Rattle.std.proofs.lemmas.List.Sums.{sum_by-cons, count_by-le-length}
 use Rattle.std.proofs.lemmas.Bool.Decides.{nat_tests}
 use Rattle.windows.specs.declared.stay.Stay.{Stay}
 use Rattle.windows.specs.Counts.{lies_within, held, starting, Tallies, Inside}
@@ -21,7 +21,7 @@ module _ {X : Type 0} (p q : X → Bool) where
       ∙ ap₂ (λ b n. cond b 1 0 + n) (same x all.0) (same_where P same xs all.1)
       ∙ sym (sum_by-cons (λ y. cond (q y) 1 0) x xs)
 
-none_where : {X : Type 0} (p : X → Bool) (P : X → Type 0) → ((x : X) → P x → p x ≡ false) → (xs : List X) → AllByRecursion P xs → count_by p xs ≡ 0
+pub none_where : {X : Type 0} (p : X → Bool) (P : X → Type 0) → ((x : X) → P x → p x ≡ false) → (xs : List X) → AllByRecursion P xs → count_by p xs ≡ 0
 none_where p P none [] all = refl
 none_where p P none (x ∷ xs) all =
     sum_by-cons (λ y. cond (p y) 1 0) x xs ∙ ap₂ (λ b n. cond b 1 0 + n) (none x all.0) (none_where p P none xs all.1)
@@ -52,12 +52,6 @@ sum_one_more (x ∷ ns) (suc i) (suc n) place =
     let more = sum_one_more ns i n (omega arith) in
     let same : cond {A = ℕ} (ltb (suc i) (suc n)) 1 0 ≡ cond (ltb i n) 1 0 = grind (arith, nat_tests) in
     sum_by-cons (λ y. y) x (take n (set ns i (get_or ns i 0 + 1))) ∙ omega arith ∙ ap₂ ◌+◌ (sym (sum_by-cons (λ y. y) x (take n ns))) (sym same)
-
--- the sum of the first n, and the last of these
-pub sum_last : (ns : List ℕ) (n : ℕ) → 1 ≤ n → n ≤ length ns → sum (take n ns) ≡ sum (take (n - 1) ns) + get_or ns (n - 1) 0
-sum_last ns n some few =
-    let here : n ≡ n - 1 + 1 = omega arith in
-    ap (λ k. sum (take k ns)) here ∙ sum_by_more (λ y. y) ns (n - 1) 0 (omega arith)
 
 -- the sum over all steps
 pub sum_all : (s : ℕ) (ends : List ℕ) (ts : List Stay) → length ends ≡ 65 → Tallies s ts ends → sum ends ≡ held s 64 ts

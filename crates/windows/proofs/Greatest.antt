@@ -1,25 +1,14 @@
 -- The greatest of the values of a function over some numbers.
-use Rattle.std.proofs.Common.{◌≡◌, ℕ, zero, suc, ◌+◌, ◌-◌, ◌<◌, ◌≤◌, max, refl, ap, ◌∙◌, ap₂, ⊎_elim, arith}
+use Rattle.std.proofs.Common.{◌≡◌, ℕ, zero, suc, ◌+◌, ◌-◌, ◌<◌, ◌≤◌, max, refl, ap, ap₂, ⊎_elim, arith}
 use Rattle.std.proofs.lemmas.Bool.{cases_lt}
 use Rattle.windows.specs.Windows.{greatest, over_windows}
 
--- the last of the numbers from s to before n, and the others
-greatest_last : (f : ℕ → ℕ) (s n : ℕ) → s < n → greatest f s (n - s) ≡ max (f (n - 1)) (greatest f s (n - 1 - s))
-greatest_last f s n some =
-    let more : n - s ≡ suc (n - 1 - s) = omega arith in
-    let last : s + (n - 1 - s) ≡ n - 1 = omega arith in
-    ap (greatest f s) more ∙ ap (λ k. max (f k) (greatest f s (n - 1 - s))) last
-
--- a loop goes down from n to s: `most` takes in the last number that is left, and at the end it is all
-module _ (f : ℕ → ℕ) (s n most all : ℕ) (left : max most (greatest f s (n - s)) ≡ all) where
-  pub greatest_turn : (more : ℕ) → s < n → more ≡ max most (f (n - 1)) → max more (greatest f s (n - 1 - s)) ≡ all
-  greatest_turn more some taken = omega (arith, greatest_last f s n some)
-
-  pub greatest_end : n ≤ s → most ≡ all
-  greatest_end end =
-      let none : n - s ≡ 0 = omega arith in
-      let empty : greatest f s (n - s) ≡ 0 = ap (greatest f s) none in
-      omega arith
+-- a loop goes down from n to s: `most` takes in the greatest number that is left
+pub greatest_turn : (f : ℕ → ℕ) (s n most all more : ℕ) → max most (greatest f s (n + 1 - s)) ≡ all → 1 ≤ n → s ≤ n → more ≡ max most (f n) → max more (greatest f s (n - 1 + 1 - s)) ≡ all
+greatest_turn f s n most all more left some low taken =
+    let size : n + 1 - s ≡ suc (n - 1 + 1 - s) = omega arith in
+    let last : s + (n - 1 + 1 - s) ≡ n = omega arith in
+    omega (arith, ap (greatest f s) size, ap f last)
 
 pub greatest_same : (f g : ℕ → ℕ) (s n : ℕ) → ((k : ℕ) → s ≤ k → k < s + n → f k ≡ g k) → greatest f s n ≡ greatest g s n
 greatest_same f g s zero same = refl

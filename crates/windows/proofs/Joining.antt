@@ -1,5 +1,6 @@
 -- The floor of Windows, from what its parts answer.
-use Rattle.std.proofs.Common.{◌≡◌, ℕ, ◌+◌, ◌-◌, ◌*◌, max, Bool, cond, ◌&&◌, ltb, List, sym, ap, ◌∙◌}
+use Rattle.std.proofs.Common.{◌≡◌, ℕ, ◌+◌, ◌-◌, ◌*◌, max, Bool, cond, ◌&&◌, eqb, ltb, List, [], ◌∷◌, count_by, refl, sym, ap, ◌∙◌}
+use Rattle.std.proofs.lemmas.List.Sums.{sum_by-cons}
 use Rattle.rules.specs.declared.operation.Operation.{Operation}
 use Rattle.rules.specs.Jobs.{Job, figure}
 use Rattle.plan.specs.declared.slot.Slot.{Slot}
@@ -23,3 +24,7 @@ module _ (j : Job) (p : List Slot) (k t l r : ℕ) (steps : t ≡ j.steps) (late
     where
       same : most ≡ over_windows t (λ s e. window_floor l r (e + 1 - s) (confined k r s e j.operations (frames j p)))
       same = greatest ∙ over_same t _ _ (λ s e low high. ap (window_floor l r (e + 1 - s)) (kept s e low high))
+
+pub of_kind_is : (k : ℕ) (os : List Operation) → of_kind k os ≡ count_by (λ o. eqb o.kind k) os
+of_kind_is k [] = refl
+of_kind_is k (o ∷ os) = ap (λ n. cond (eqb o.kind k) 1 0 + n) (of_kind_is k os) ∙ sym (sum_by-cons (λ o. cond (eqb o.kind k) 1 0) o os)

@@ -1,7 +1,7 @@
 mod Rounding
 mod Greatest
 mod Counting
-mod Chains
+mod Order
 mod Framing
 mod Gathering
 mod Rows

@@ -7,7 +7,7 @@ use Rattle.windows.specs.declared.stay.Stay.{Stay}
 use Rattle.windows.specs.Counts.{held, starting, Tallies, held_floor, tallied_floor, Inside}
 use Rattle.windows.specs.Windows.{room, window_floor, greatest}
 use Rattle.windows.proofs.Counting.{held_split, held_wider, held_past}
-use Rattle.windows.proofs.Greatest.{greatest_turn, greatest_end, greatest_same, greatest_least, greatest_above}
+use Rattle.windows.proofs.Greatest.{greatest_turn, greatest_same, greatest_least, greatest_above}
 use Rattle.windows.proofs.Rounding.{enough, no_greater}
 
 module _ (l r : ℕ) where
@@ -58,19 +58,17 @@ module _ (l r t : ℕ) (ts : List Stay) where
           (λ here. let is : e ≡ s = omega arith in omega (arith, ap (held_floor l r ts s) is, first))
           (cases_lt s e)
 
-  -- what is known when the rows from s on are done: `ends` tallies their stays, and `most` is the greatest of their floors
+  -- what is known when the rows after step s are done: `ends` tallies their stays, and `most` is the greatest of their floors
   pub record Done (s : ℕ) (ends : List ℕ) (most : ℕ) : Type 0 where
-    pub some : 1 ≤ s
-    pub tallied : Tallies s ts ends
-    pub least : row l r ts t s ≤ most
-    pub left : max most (greatest (row l r ts t) 1 (s - 1)) ≡ greatest (row l r ts t) 1 t
+    pub tallied : Tallies (s + 1) ts ends
+    pub least : row l r ts t (s + 1) ≤ most
+    pub left : max most (greatest (row l r ts t) 1 (s + 1 - 1)) ≡ greatest (row l r ts t) 1 t
 
-  pub done_none : Inside t ts → (ends : List ℕ) → sum ends ≡ 0 → Done (t + 1) ends 0
+  pub done_none : Inside t ts → (ends : List ℕ) → sum ends ≡ 0 → Done t ends 0
   done_none inside ends none =
       let past : t + 1 - (t + 1) ≡ 0 = omega arith in
       let all : t + 1 - 1 ≡ t = omega arith in
       record {
-        some = omega arith;
         tallied = λ e low.
             let few : sum (take (e + 1) ends) ≤ sum ends = sum_by-take-le (λ n. n) ends (e + 1) in
             omega (arith, held_past t ts inside e);
@@ -78,32 +76,25 @@ module _ (l r t : ℕ) (ts : List Stay) where
         left = omega (arith, ap (greatest (row l r ts t) 1) all);
       }
 
-  module _ (s : ℕ) (more : 1 < s) (ends : List ℕ) (most : ℕ) (done : Done s ends most) where
-    -- no stay begins at s - 1
-    pub done_skipped : Inside t ts → s ≤ t + 1 → ((e : ℕ) → starting (s - 1) e ts ≡ 0) → Done (s - 1) ends most
-    done_skipped inside low none =
-        let next : s - 1 + 1 ≡ s = omega arith in
-        let least : row l r ts t (s - 1) ≤ most = omega (arith, row_later inside (s - 1) (omega arith) none, ap (row l r ts t) next, done.least) in
+  module _ {s : ℕ} {ends : List ℕ} {most : ℕ} (done : Done s ends most) (some : 1 ≤ s) (low : s ≤ t) where
+    turn : (ends' : List ℕ) (most' : ℕ) → Tallies s ts ends' → most' ≡ max most (row l r ts t s) → Done (s - 1) ends' most'
+    turn ends' most' tallied taken =
+        let here : s - 1 + 1 ≡ s = omega arith in
         record {
-          some = omega arith;
-          tallied = λ e high. omega (arith, done.tallied e high, ap (λ x. held x e ts) next, held_split (s - 1) e ts, none e);
-          least = least;
-          left = greatest_turn (row l r ts t) 1 s most _ done.left most more (omega arith);
+          tallied = rw here tallied;
+          least = rw here (omega arith);
+          left = greatest_turn (row l r ts t) 1 s most _ most' done.left some some taken;
         }
 
-    -- the row at s - 1 is taken in
-    pub done_raised : t ≤ 64 → (ends' : List ℕ) → Tallies (s - 1) ts ends' → (most' : ℕ)
-        → most' ≡ max most (greatest (tallied_floor l r ends' (s - 1)) (s - 1) (t + 1 - (s - 1))) → Done (s - 1) ends' most'
+    -- no stay begins at s
+    pub done_skipped : Inside t ts → (ends' : List ℕ) → Tallies s ts ends' → ((e : ℕ) → starting s e ts ≡ 0) → Done (s - 1) ends' most
+    done_skipped inside ends' tallied none =
+        let later = row_later inside s low none in
+        turn ends' most tallied (omega (arith, done.least))
+
+    -- the row at s is taken in
+    pub done_raised : t ≤ 64 → (ends' : List ℕ) → Tallies s ts ends' → (most' : ℕ)
+        → most' ≡ max most (greatest (tallied_floor l r ends' s) s (t + 1 - s)) → Done (s - 1) ends' most'
     done_raised few ends' tallied most' raised =
-        let same : greatest (tallied_floor l r ends' (s - 1)) (s - 1) (t + 1 - (s - 1)) ≡ row l r ts t (s - 1) =
-        greatest_same _ (held_floor l r ts (s - 1)) (s - 1) (t + 1 - (s - 1)) (λ e low high. ap (window_floor l r (e + 1 - (s - 1))) (tallied e (omega arith))) in
-        let taken : most' ≡ max most (row l r ts t (s - 1)) = raised ∙ ap (max most) same in
-        record {
-          some = omega arith;
-          tallied = tallied;
-          least = omega arith;
-          left = greatest_turn (row l r ts t) 1 s most _ done.left most' more taken;
-        }
-
-  pub done_all : (s : ℕ) (ends : List ℕ) (most : ℕ) → Done s ends most → s ≤ 1 → most ≡ greatest (row l r ts t) 1 t
-  done_all s ends most done last = greatest_end (row l r ts t) 1 s most _ done.left last
+        turn ends' most' tallied
+        (raised ∙ ap (max most) (greatest_same _ (held_floor l r ts s) s (t + 1 - s) (λ e low high. ap (window_floor l r (e + 1 - s)) (tallied e (omega arith)))))

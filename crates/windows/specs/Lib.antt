@@ -1,3 +1,2 @@
 pub mod Windows
-pub mod Chains
 pub mod Counts

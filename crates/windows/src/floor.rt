@@ -1,39 +1,43 @@
 //! The floor of a kind.
 ghost use Rattle.std.specs.Prelude.{◌≡◌};
-ghost use Rattle.job.specs.Held.{job_of};
 ghost use Rattle.rules.specs.Jobs.{figure};
-ghost use Rattle.windows.specs.Windows.{windows};
+ghost use Rattle.windows.specs.Windows.{of_kind, windows};
 
 use crate::gather::gather;
 use crate::timing::Timing;
-use job::Job;
-use plan::slot::Slot;
+use job::{Job, Operation};
+use plan::Draft;
 
-// For how many steps an operation of the kind keeps its unit busy, 0 if the kind is not held.
+// For how many steps an operation of the kind keeps its unit busy; 0 and no `Option` if the kind is not held, for then no window
+// needs a unit.
 fn busy_time(job: &Job, kind: u8) -> u8
-    ensures { result ≡ figure (λ k. k.busy) (job_of job.now).kinds kind }
+    ensures { result ≡ figure (λ k. k.busy) job.now.kinds kind }
 {
-    match job.kind(kind) {
-        Some(row) => row.busy,
-        None => 0,
-    }
+    job.kind(kind).map_or(0, |row| row.busy)
 }
 
-/// A lower bound on the units that the kind numbered `kind` needs in any plan that puts the first operations into the slots
-/// `placed`. The operations that must be busy within some window of steps need that many units there, and where no two
-/// operations of the kind can share a unit, each needs its own.
-pub fn windows_floor(job: &Job, placed: &[Slot], kind: u8) -> u16
-    ensures { result ≡ windows (job_of job.now) placed.now kind }
+// How many of the operations are of the kind.
+fn count_of(operations: &[Operation], kind: u8) -> usize
+    ensures { result ≡ of_kind kind operations.now }
 {
+    operations.iter().filter(|o| o.kind == kind).count()
+}
+
+/// A lower bound on the units that the kind numbered `kind` needs in any plan that begins with the slots of a draft. The operations that must be busy within some window of steps need that many units there, and where no two
+/// operations of the kind can share a unit, each needs its own.
+pub fn windows_floor(draft: Draft, kind: u8) -> u16
+    ensures { result ≡ windows draft.entry.job.now draft.entry.slots.now kind }
+{
+    let operations = draft.job.operations();
     let timing = Timing {
-        steps: job.steps(),
-        latency: job.latency(),
-        busy: busy_time(job, kind),
+        steps: draft.job.steps(),
+        latency: draft.job.latency(),
+        busy: busy_time(draft.job, kind),
     };
-    let gathered = gather(job, placed, kind, timing);
-    let most = timing.greatest_floor(&gathered.stays);
+    let stays = gather(draft, kind, timing);
+    let most = timing.greatest_floor(&stays);
     if timing.latency > 0 && 2 * timing.busy as u16 > timing.latency as u16 {
-        return most.max(gathered.operations as u16);
+        return most.max(count_of(operations, kind) as u16);
     }
     most
 }

@@ -4,7 +4,6 @@
 mod floor;
 mod gather;
 mod stay;
-mod stays;
 mod tally;
 mod timing;
 

@@ -10,4 +10,11 @@ pub struct Stay {
     ghost end_range: { end ≤ 64 },
 }
 
+// What stands at a vector's unused places. By hand: beside ghost fields `Default` cannot be derived.
+impl Default for Stay {
+    fn default() -> Self {
+        Stay { begin: 0, end: 0 }
+    }
+}
+
 mod framed;

@@ -1,7 +1,8 @@
 //! A tally of stays by the step where they end.
 ghost use Rattle.std.specs.Prelude.{◌≡◌, length, sum};
 
-use crate::stays::STEP_ROWS;
+/// One row for each step, from 0 to the last that a job may have.
+pub const STEP_ROWS: usize = 65;
 
 /// How many stays end at each step, and how many there are in all.
 #[derive(Drop)]

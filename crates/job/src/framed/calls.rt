@@ -1,19 +1,21 @@
 //! The calls on a job.
-ghost use Rattle.std.specs.Prelude.{◌≡◌, OnOk};
+ghost use Rattle.std.specs.Prelude.{◌≡◌, OnOk, map};
 ghost use Rattle.rules.specs.Changes.{RangesAreExact};
+ghost use Rattle.rules.specs.declared.frame.Frame.{Frame};
 ghost use Rattle.rules.specs.declared.edit.Edit.TheVariants.{AddKind, AddLibraryKind, AddOperation, SetLimits};
 ghost use Rattle.rules.specs.Edits.{Became, CarriedOut};
 ghost use Rattle.rules.specs.Encoding.{FilesStandForEdits};
 ghost use Rattle.rules.specs.Files.{loaded, Loads};
 ghost use Rattle.rules.specs.Frames.{earliests, latests, frame_of, Framed};
-ghost use Rattle.job.specs.Held.{job_of};
-ghost use Rattle.tables.specs.Held.{tables_job};
-ghost use Rattle.rules.specs.Jobs.{fresh, numbered, duration_of};
+ghost use Rattle.rules.specs.Jobs.{fresh, Valid, numbered, duration_of};
 ghost use Rattle.rules.specs.Refusals.{told, told_file};
 
 use super::Job;
+use super::work_out::frames_of;
 use jobfile::read::read_tables;
+use rules::by_number::numbered;
 use rules::edit::Edit;
+use rules::frame::Frame;
 use rules::kind::{Figures, Kind};
 use rules::operation::Operation;
 use rules::refusal::{FileRefusal, Refusal};
@@ -22,7 +24,7 @@ use tables::tables::Tables;
 impl Job {
     /// A job with no kinds, no operations, one step and latency 0.
     pub fn new() -> Self
-        ensures fresh { job_of result ≡ fresh }
+        ensures fresh { result ≡ fresh }
         ensures ranges { RangesAreExact }
     {
         Job::of(Tables::new())
@@ -30,30 +32,24 @@ impl Job {
 
     // The job of these tables, its frames worked out.
     fn of(tables: Tables) -> Self
-        ensures { job_of result ≡ tables_job tables }
+        ensures { result ≡ tables }
     {
-        let earliest = tables.earliest_starts();
-        let latest = tables.latest_starts();
-        Job {
-            tables,
-            earliest,
-            latest,
-        }
+        let frames = frames_of(&tables);
+        Job { tables, frames }
     }
 
     /// Makes one edit, or refuses it as the call for that edit does.
     pub fn edit(&mut self, edit: Edit) -> Result<(), Refusal>
-        ensures { CarriedOut (job_of self.old) edit result (job_of self.new) }
+        ensures { CarriedOut self.old edit result self.new }
     {
         self.tables.edit(edit)?;
-        self.earliest = self.tables.earliest_starts();
-        self.latest = self.tables.latest_starts();
+        self.frames = frames_of(&self.tables);
         Ok(())
     }
 
     /// Adds a kind by its figures. Refused: 1 a figure out of range, 9 a ninth kind, 13 a busy time above a latency that is not 0.
     pub fn add_kind(&mut self, figures: Figures) -> Result<(), Refusal>
-        ensures { CarriedOut (job_of self.old) (AddKind figures) result (job_of self.new) }
+        ensures { CarriedOut self.old (AddKind figures) result self.new }
     {
         self.edit(Edit::AddKind(figures))
     }
@@ -61,14 +57,14 @@ impl Job {
     /// Adds a unit of the house library, by its number from 1, as a kind with a cap. Refused: 4 no such number, 1 a cap out of
     /// range, 9 a ninth kind, 13 a busy time above a latency that is not 0.
     pub fn add_library_kind(&mut self, number: u8, cap: u8) -> Result<(), Refusal>
-        ensures { CarriedOut (job_of self.old) (AddLibraryKind number cap) result (job_of self.new) }
+        ensures { CarriedOut self.old (AddLibraryKind number cap) result self.new }
     {
         self.edit(Edit::AddLibraryKind { number, cap })
     }
 
     /// Adds an operation. Refused: 10 a 65th operation, 11 a kind that is not held, 12 an operand above the operations held.
     pub fn add_operation(&mut self, operation: Operation) -> Result<(), Refusal>
-        ensures { CarriedOut (job_of self.old) (AddOperation operation) result (job_of self.new) }
+        ensures { CarriedOut self.old (AddOperation operation) result self.new }
     {
         self.edit(Edit::AddOperation(operation))
     }
@@ -76,7 +72,7 @@ impl Job {
     /// Sets the number of steps and the latency. Refused: 2 one of them out of range, 13 a kind with a busy time above a latency
     /// that is not 0.
     pub fn set_limits(&mut self, steps: u8, latency: u8) -> Result<(), Refusal>
-        ensures { CarriedOut (job_of self.old) (SetLimits steps latency) result (job_of self.new) }
+        ensures { CarriedOut self.old (SetLimits steps latency) result self.new }
     {
         self.edit(Edit::SetLimits { steps, latency })
     }
@@ -85,7 +81,7 @@ impl Job {
     /// the length of the first record at fault: 5 not a job file (at 0), 6 a torn record, 7 an unknown one, or what its edit is
     /// refused with.
     pub fn load(&mut self, file: &[u8]) -> Result<(), FileRefusal>
-        ensures exact { Became (job_of self.old) (loaded file.now) (told_file result) (job_of self.new) }
+        ensures exact { Became self.old (loaded file.now) (told_file result) self.new }
         ensures read { Loads file.now (loaded file.now) }
         ensures stands_for { FilesStandForEdits }
     {
@@ -97,71 +93,66 @@ impl Job {
     /// The frame of an operation by its number from 1: its earliest and its latest start. A latest start may be zero or negative.
     /// Refused: 15 an operation that is not held.
     pub fn frame(&self, number: u8) -> Result<(i16, i16), Refusal>
-        ensures exact { told result ≡ frame_of (job_of self.now) number }
-        ensures framed { OnOk result (Framed (job_of self.now) number) }
+        ensures exact { told result ≡ frame_of self.now number }
+        ensures framed { OnOk result (Framed self.now number) }
     {
-        let n = number as usize;
-        if n == 0 || n > self.operations().len() {
+        if numbered(self.operations(), number).is_none() {
             return Err(Refusal::UnknownOperation);
         }
-        Ok((self.earliest[n - 1] as i16, self.latest[n - 1]))
+        let frame = self.frames()[number as usize - 1];
+        Ok((frame.earliest as i16, frame.latest))
     }
 
     /// The kinds, in the order of their numbers.
     pub fn kinds(&self) -> &[Kind]
-        ensures { result.now ≡ (job_of self.now).kinds }
+        ensures exact { result.now ≡ self.now.kinds }
+        ensures valid { Valid self.now }
     {
-        self.tables.kinds.as_slice()
+        self.tables.kinds()
     }
 
     /// The kind with this number, from 1.
     pub fn kind(&self, number: u8) -> Option<Kind>
-        ensures { result ≡ numbered (job_of self.now).kinds number }
+        ensures { result ≡ numbered self.now.kinds number }
     {
         self.tables.kind(number)
     }
 
     /// The duration of an operation, 0 if its kind is not held.
+    // 0 and no `Option`: an operation that is held has its kind, so callers would only put the 0 back.
     pub fn duration(&self, operation: Operation) -> u8
-        ensures { result ≡ duration_of (job_of self.now) operation }
+        ensures { result ≡ duration_of self.now operation }
     {
         self.tables.duration(operation)
     }
 
     /// The operations, in the order of their numbers.
     pub fn operations(&self) -> &[Operation]
-        ensures { result.now ≡ (job_of self.now).operations }
+        ensures exact { result.now ≡ self.now.operations }
+        ensures valid { Valid self.now }
     {
-        self.tables.operations.as_slice()
+        self.tables.operations()
     }
 
-    /// The earliest start of each operation, in the order of their numbers.
-    pub fn earliest_starts(&self) -> &[u16]
-        ensures { result.now ≡ earliests (job_of self.now) }
+    /// The frame of each operation, in the order of their numbers.
+    pub fn frames(&self) -> &[Frame]
+        ensures earliest { map (λ (f : Frame). f.earliest) result.now ≡ earliests self.now }
+        ensures latest { map (λ (f : Frame). f.latest) result.now ≡ latests self.now }
     {
-        let starts = &self.earliest[..];
-        &starts[0..self.operations().len()]
-    }
-
-    /// The latest start of each operation, in the order of their numbers. It may be zero or negative.
-    pub fn latest_starts(&self) -> &[i16]
-        ensures { result.now ≡ latests (job_of self.now) }
-    {
-        let starts = &self.latest[..];
-        &starts[0..self.operations().len()]
+        self.frames.as_slice()
     }
 
     /// The number of steps of a sample.
     pub fn steps(&self) -> u8
-        ensures { result ≡ (job_of self.now).steps }
+        ensures { result ≡ self.now.steps }
     {
-        self.tables.steps
+        self.tables.steps()
     }
 
     /// The steps from one sample to the next, 0 where a sample is through before the next begins.
     pub fn latency(&self) -> u8
-        ensures { result ≡ (job_of self.now).latency }
+        ensures { result ≡ self.now.latency }
     {
-        self.tables.latency
+        self.tables.latency()
     }
 }

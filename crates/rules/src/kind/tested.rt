@@ -6,24 +6,42 @@ ghost use Rattle.rules.specs.Refusals.{told};
 use super::{Figures, Kind, LONGEST_DURATION, MOST_UNITS};
 use crate::refusal::Refusal;
 
-impl Figures {
-    /// The kind with these figures. Refused: 1 a duration, a busy time or a cap out of its range.
-    pub fn kind(self) -> Result<Kind, Refusal>
-        ensures { told result ≡ kind_of self }
-    {
-        if self.busy == 0 || self.busy > self.duration {
+/// The kind with these figures. Refused: 1 a duration, a busy time or a cap out of its range.
+impl TryFrom<Figures> for Kind {
+    type Error = Refusal;
+
+    ghost try_from_gives = { λ f r. told r ≡ kind_of f };
+
+    fn try_from(figures: Figures) -> Result<Self, Refusal> {
+        if figures.busy == 0 || figures.busy > figures.duration {
             return Err(Refusal::FigureOutOfRange);
         }
-        if self.duration > LONGEST_DURATION || self.cap > MOST_UNITS {
+        if figures.duration > LONGEST_DURATION || figures.cap > MOST_UNITS {
             return Err(Refusal::FigureOutOfRange);
         }
         Ok(Kind {
-            duration: self.duration,
-            busy: self.busy,
-            cap: self.cap,
-            area: self.area,
-            draw: self.draw,
+            duration: figures.duration,
+            busy: figures.busy,
+            cap: figures.cap,
+            area: figures.area,
+            draw: figures.draw,
         })
+    }
+}
+
+/// The least kind: done in a step, and no units of it. It stands in the rows of a table that are not filled.
+// By hand: beside ghost fields `Default` cannot be derived.
+impl Default for Kind {
+    ghost is_default = { λ k. (k.duration ≡ 1) × (k.busy ≡ 1) × (k.cap ≡ 0) × (k.area ≡ 0) × (k.draw ≡ 0) };
+
+    fn default() -> Self {
+        Kind {
+            duration: 1,
+            busy: 1,
+            cap: 0,
+            area: 0,
+            draw: 0,
+        }
     }
 }
 

@@ -1,12 +1,11 @@
 //! Editing the tables. Each edit tests in a fixed order, and a refused one leaves the tables as they were.
 ghost use Rattle.std.specs.Prelude.{◌≡◌, ◌&&◌, length, Ok, Err, nat_le};
 ghost use Rattle.rules.specs.Edits.{with_kind, with_operation, with_limits, all_restart, Became, CarriedOut};
-ghost use Rattle.tables.specs.Held.{tables_job};
 ghost use Rattle.rules.specs.Jobs.{fresh};
 ghost use Rattle.rules.specs.Refusals.{told};
 
-use super::{LONGEST_LATENCY, MOST_KINDS, MOST_OPERATIONS, MOST_STEPS, Tables};
-use crate::table::Table;
+use super::{LONGEST_LATENCY, MOST_STEPS, Tables};
+use arrayvec::ArrayVec;
 use rules::edit::Edit;
 use rules::kind::Kind;
 use rules::library::library_kind;
@@ -23,23 +22,11 @@ fn in_range(steps: u8, latency: u8) -> bool
 impl Tables {
     /// No kinds, no operations, one step, latency 0.
     pub fn new() -> Self
-        ensures { tables_job result ≡ fresh }
+        ensures { result ≡ fresh }
     {
-        let kind = Kind {
-            duration: 1,
-            busy: 1,
-            cap: 0,
-            area: 0,
-            draw: 0,
-        };
-        let operation = Operation {
-            kind: 0,
-            left: 0,
-            right: 0,
-        };
         Tables {
-            kinds: Table::new(kind),
-            operations: Table::new(operation),
+            kinds: ArrayVec::new(),
+            operations: ArrayVec::new(),
             steps: 1,
             latency: 0,
         }
@@ -47,9 +34,9 @@ impl Tables {
 
     // Adds a kind whose figures are in range.
     fn add_kind(&mut self, kind: Kind) -> Result<(), Refusal>
-        ensures { Became (tables_job self.old) (with_kind (tables_job self.old) (Ok kind)) (told result) (tables_job self.new) }
+        ensures { Became self.old (with_kind self.old (Ok kind)) (told result) self.new }
     {
-        if self.kinds.as_slice().len() >= MOST_KINDS {
+        if self.kinds.is_full() {
             return Err(Refusal::TooManyKinds);
         }
         if !kind.restarts_within(self.latency) {
@@ -61,22 +48,22 @@ impl Tables {
 
     // Whether there is a kind with this number.
     fn kind_held(&self, number: u8) -> bool
-        ensures { result ≡ (nat_le 1 number && nat_le number (length (tables_job self.now).kinds)) }
+        ensures { result ≡ (nat_le 1 number && nat_le number (length self.now.kinds)) }
     {
-        number >= 1 && number as usize <= self.kinds.as_slice().len()
+        number >= 1 && number as usize <= self.kinds.len()
     }
 
     // Whether an operand is an outside input, or an operation that is held.
     fn operand_held(&self, operand: u8) -> bool
-        ensures { result ≡ nat_le operand (length (tables_job self.now).operations) }
+        ensures { result ≡ nat_le operand (length self.now.operations) }
     {
-        operand as usize <= self.operations.as_slice().len()
+        operand as usize <= self.operations.len()
     }
 
     fn add_operation(&mut self, operation: Operation) -> Result<(), Refusal>
-        ensures { Became (tables_job self.old) (with_operation (tables_job self.old) operation) (told result) (tables_job self.new) }
+        ensures { Became self.old (with_operation self.old operation) (told result) self.new }
     {
-        if self.operations.as_slice().len() >= MOST_OPERATIONS {
+        if self.operations.is_full() {
             return Err(Refusal::TooManyOperations);
         }
         if !self.kind_held(operation.kind) {
@@ -94,18 +81,16 @@ impl Tables {
 
     // Whether every kind is free again within a latency.
     fn all_restart(&self, latency: u8) -> bool
-        ensures { result ≡ all_restart latency (tables_job self.now).kinds }
+        ensures { result ≡ all_restart latency self.now.kinds }
     {
-        for kind in self.kinds.as_slice() {
-            if !kind.restarts_within(latency) {
-                return false;
-            }
-        }
-        true
+        self.kinds
+            .as_slice()
+            .iter()
+            .all(|kind| kind.restarts_within(latency))
     }
 
     fn set_limits(&mut self, steps: u8, latency: u8) -> Result<(), Refusal>
-        ensures { Became (tables_job self.old) (with_limits (tables_job self.old) steps latency) (told result) (tables_job self.new) }
+        ensures { Became self.old (with_limits self.old steps latency) (told result) self.new }
     {
         if !in_range(steps, latency) {
             return Err(Refusal::LimitOutOfRange);
@@ -120,10 +105,10 @@ impl Tables {
 
     /// Makes one edit, or refuses it and leaves the tables as they were.
     pub fn edit(&mut self, edit: Edit) -> Result<(), Refusal>
-        ensures { CarriedOut (tables_job self.old) edit result (tables_job self.new) }
+        ensures { CarriedOut self.old edit result self.new }
     {
         match edit {
-            Edit::AddKind(figures) => self.add_kind(figures.kind()?),
+            Edit::AddKind(figures) => self.add_kind(Kind::try_from(figures)?),
             Edit::AddLibraryKind { number, cap } => self.add_kind(library_kind(number, cap)?),
             Edit::AddOperation(operation) => self.add_operation(operation),
             Edit::SetLimits { steps, latency } => self.set_limits(steps, latency),

@@ -3,18 +3,18 @@ ghost use Rattle.windows.specs.Counts.{Keeps};
 
 use super::Stay;
 use crate::timing::Timing;
+use job::Frame;
 
 impl Stay {
-    // The stay of an operation with this earliest and latest start; none where it may be busy past the last step.
-    pub(crate) fn of(frame: (u16, i16), timing: Timing) -> Option<Stay>
-        ensures { Keeps frame timing.busy timing.steps result }
+    // The stay of an operation with this frame; none where it may be busy past the last step.
+    pub(crate) fn of(frame: Frame, timing: Timing) -> Option<Stay>
+        ensures { Keeps (frame.earliest, frame.latest) timing.busy timing.steps result }
     {
-        let (earliest, latest) = frame;
-        let free = latest as i32 + timing.busy as i32;
+        let free = frame.latest as i32 + timing.busy as i32;
         if free > timing.steps as i32 + 1 {
             return None;
         }
-        let begin = earliest.min(timing.steps as u16) as u8;
+        let begin = frame.earliest.min(timing.steps as u16) as u8;
         let end = if free > 1 { (free - 1) as u8 } else { 0 };
         Some(Stay { begin, end })
     }

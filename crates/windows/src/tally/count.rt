@@ -1,10 +1,11 @@
 //! Counting stays.
-ghost use Rattle.std.specs.Prelude.{◌≡◌, ◌+◌, ◌<◌, ◌≤◌, slice_index, slice_set};
-ghost use Rattle.windows.specs.Counts.{listed, Tallies};
+ghost use Rattle.std.specs.Prelude.{◌≡◌, ℕ, ◌+◌, ◌<◌, ◌≤◌, length, take, sum, slice_index, slice_set};
+ghost use Rattle.windows.specs.Counts.{starting, Ordered, Before, Front};
 
-use super::Tally;
-use crate::stays::{STEP_ROWS, Stays};
+use super::{STEP_ROWS, Tally};
+use crate::stay::Stay;
 
+// `Ordered` is asked of slices of the sorted stays, which a struct could not hand on.
 impl Tally {
     // A tally of no stays.
     pub(crate) fn new() -> Self
@@ -19,7 +20,7 @@ impl Tally {
     // Counts one more stay, which ends at `end`.
     fn add(&mut self, end: u8)
         requires range { end ≤ 64 }
-        requires few { self.old.all < 128 }
+        requires few { self.old.all < 255 }
         ensures ends { self.new.ends ≡ slice_set self.old.ends end (slice_index self.old.ends end + 1) }
         ensures all { self.new.all ≡ self.old.all + 1 }
     {
@@ -27,16 +28,22 @@ impl Tally {
         self.all += 1;
     }
 
-    // Counts the stays that begin at `step` too, where those that begin later are counted.
-    pub(crate) fn take_in(&mut self, stays: &Stays, step: u8)
-        requires range { step ≤ 64 }
-        requires later { Tallies (step + 1) (listed stays.now) self.old.ends }
-        ensures { Tallies step (listed stays.now) self.new.ends }
+    // Counts the stays that begin at `step`, the last of `stays`, and answers those before them, which begin earlier.
+    pub(crate) fn take_in<'a>(&mut self, stays: &'a [Stay], step: u8) -> &'a [Stay]
+        requires few { self.old.all + length stays.now ≤ 255 }
+        requires ordered { Ordered stays.now }
+        requires before { Before (step + 1) stays.now }
+        ensures front { Front step stays.now result.now }
+        ensures before { Before step result.now }
+        ensures ends { (e : ℕ) → e ≤ 64 → sum (take (e + 1) self.new.ends) ≡ sum (take (e + 1) self.old.ends) + starting step e stays.now }
     {
-        let mut number = stays.last[step as usize] as usize;
-        while number != 0 {
-            self.add(stays.items[number - 1].end);
-            number = stays.before[number - 1] as usize;
+        let mut rest = stays;
+        while let Some((last, before)) = rest.split_last()
+            && last.begin == step
+        {
+            self.add(last.end);
+            rest = before;
         }
+        rest
     }
 }

@@ -9,10 +9,11 @@ fn raised(floor: u16, work: u16, room: u8) -> u16
     requires { 1 ≤ room }
     ensures { result ≡ max floor (rounded_up work room) }
 {
+    // Most floors stay, and a product costs less than a quotient.
     if floor as u32 * room as u32 >= work as u32 {
         return floor;
     }
-    ((work as u32 + (room as u32 - 1)) / room as u32) as u16
+    work.div_ceil(room as u16)
 }
 
 impl Timing {

@@ -1,10 +1,10 @@
 //! The greatest floor of all windows: rows of windows that begin at the same step.
-ghost use Rattle.std.specs.Prelude.{◌≡◌, ◌+◌, ◌-◌, ◌≤◌, max, take, sum};
-ghost use Rattle.windows.specs.Counts.{listed, held_floor, tallied_floor, Inside};
+ghost use Rattle.std.specs.Prelude.{◌≡◌, ◌+◌, ◌-◌, ◌≤◌, length, max, take, sum};
+ghost use Rattle.windows.specs.Counts.{held_floor, tallied_floor, Inside, Ordered};
 ghost use Rattle.windows.specs.Windows.{greatest, over_windows};
 
 use super::Timing;
-use crate::stays::Stays;
+use crate::stay::Stay;
 use crate::tally::Tally;
 
 impl Timing {
@@ -16,26 +16,32 @@ impl Timing {
     {
         let mut count = tally.all;
         let mut most = floor;
-        for end in (begin..self.steps + 1).rev() {
+        // by step, which is no index: it ends the window, and the tally has a row for it
+        for end in (begin..=self.steps).rev() {
             most = self.raise(most, end + 1 - begin, count);
             count -= tally.ends[end as usize];
         }
         most
     }
 
-    // The greatest floor of all windows. One that begins where no stay does is no better than one that begins a step later.
-    pub(crate) fn greatest_floor(self, stays: &Stays) -> u16
-        requires { Inside self.steps (listed stays.now) }
-        ensures { result ≡ over_windows self.steps (held_floor self.latency self.busy (listed stays.now)) }
+    // The greatest floor of all windows, from stays that are sorted by their begin. A window that begins where no stay does is no
+    // better than one that begins a step later.
+    pub(crate) fn greatest_floor(self, stays: &[Stay]) -> u16
+        requires few { length stays.now ≤ 64 }
+        requires ordered { Ordered stays.now }
+        requires inside { Inside self.steps stays.now }
+        ensures { result ≡ over_windows self.steps (held_floor self.latency self.busy stays.now) }
     {
         let mut tally = Tally::new();
         let mut most = 0;
-        for begin in (1..self.steps + 1).rev() {
-            if stays.last[begin as usize] == 0 {
-                continue;
+        let mut rest = stays;
+        // by step, which is no index: the stays that begin at it are taken in
+        for begin in (1..=self.steps).rev() {
+            let earlier = tally.take_in(rest, begin);
+            if earlier.len() < rest.len() {
+                most = self.raise_row(most, begin, &tally);
             }
-            tally.take_in(stays, begin);
-            most = self.raise_row(most, begin, &tally);
+            rest = earlier;
         }
         most
     }

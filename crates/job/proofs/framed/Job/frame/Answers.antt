@@ -1,32 +1,49 @@
-use Rattle.std.proofs.Common.{◌≡◌, ◌-◌, length, get_or, pos, ap, ◌∙◌, arith, w16, SFits, rules}
+use Rattle.std.proofs.Common.{◌-◌, get_or, pos, ap, ◌∙◌, arith, w16, SFits, rules}
 use Rattle.std.proofs.lemmas.Int.{to_z-of_z, to_z_pos}
-use Rattle.rules.specs.Frames.{earliests, latests, earliest_start, latest_start}
-use Rattle.job.specs.Held.{job_of}
-use Rattle.rules.specs.Jobs.{Job}
+use Rattle.rules.specs.declared.frame.Frame.{Frame}
+use Rattle.rules.specs.Frames.{FramesOf}
+use Rattle.rules.specs.Jobs.{numbered}
 use Rattle.rules.proofs.FramesRight.{frames_right, earliest_small}
-use Rattle.job.proofs.Questions.{row_of, frame_told}
-use Rattle.rules.proofs.Validity.{valid_out}
+use Rattle.job.proofs.Questions.{held, many, start_is, frame_told}
 use Rattle.job.proofs.framed.Job.frame.Goals as goal
+
+abbrev no_frame : Frame
+no_frame = record { earliest = 0; latest = pos 0 }
+
+pub bounds-frames-number : goal.bounds-frames-number
+bounds-frames-number c =
+    let j = c.args.self.now in
+    let n = c.args.number in
+    let w = held j.operations n c.numbered.result (c.numbered.ensures ∙ ap (λ os. numbered os n) c.operations.ensures.exact) c.if-is_none.ensures in
+    let kept : FramesOf j c.frames.result.now = record { earliest = c.frames.ensures.earliest; latest = c.frames.ensures.latest } in
+    omega (arith, w, many j c.frames.result.now kept)
 
 pub overflow_cast-result : goal.overflow_cast-result
 overflow_cast-result c =
-    let j : Job = job_of c.args.self.now in
-    let held = ap length c.operations.ensures in
-    let small = earliest_small j (valid_out c.args.self.now.tables.valid) c.args.number c.args.number (omega arith) (omega arith) (omega arith) in
-    let few = (valid_out c.args.self.now.tables.valid).few_operations in
-    let start : get_or c.args.self.now.earliest (c.args.number - 1) 0 ≡ earliest_start j c.args.number = row_of c.args.self.now.earliest (earliests j) 0 c.args.number c.args.self.now.from_earliest (omega arith) in
-    omega arith
+    let j = c.args.self.now in
+    let n = c.args.number in
+    let w = held j.operations n c.numbered.result (c.numbered.ensures ∙ ap (λ os. numbered os n) c.operations.ensures.exact) c.if-is_none.ensures in
+    let kept : FramesOf j c.frames.result.now = record { earliest = c.frames.ensures.earliest; latest = c.frames.ensures.latest } in
+    let few = c.operations.ensures.valid.few_operations in
+    let small = earliest_small j c.operations.ensures.valid n n (omega arith) w.0 w.1 in
+    let start = start_is j c.frames.result.now kept n no_frame w.0 w.1 in
+    omega (arith, start, small, w)
 
-pub returns : goal.returns
-returns c =
-    let j : Job = job_of c.args.self.now in
-    let held = ap length c.operations.ensures in
-    let small = earliest_small j (valid_out c.args.self.now.tables.valid) c.args.number c.args.number (omega arith) (omega arith) (omega arith) in
-    let few = (valid_out c.args.self.now.tables.valid).few_operations in
-    let start : get_or c.args.self.now.earliest (c.args.number - 1) 0 ≡ earliest_start j c.args.number = row_of c.args.self.now.earliest (earliests j) 0 c.args.number c.args.self.now.from_earliest (omega arith) in
-    let end : get_or c.args.self.now.latest (c.args.number - 1) (pos 0) ≡ latest_start j c.args.number = row_of c.args.self.now.latest (latests j) (pos 0) c.args.number c.args.self.now.to_latest (omega arith) in
-    let fits : SFits w16 (get_or c.args.self.now.latest (c.args.number - 1) (pos 0)) = search rules in
-    record {
-      exact = frame_told j c.args.number _ _ (omega arith) (omega arith) (to_z_pos w16 _ (omega arith) ∙ ap pos start) (to_z-of_z w16 _ fits ∙ end);
-      framed = frames_right j (valid_out c.args.self.now.tables.valid) c.args.number (omega arith) (omega arith);
-    }
+pub returns-clause-exact : goal.returns-clause-exact
+returns-clause-exact c =
+    let j = c.args.self.now in
+    let n = c.args.number in
+    let w = held j.operations n c.numbered.result (c.numbered.ensures ∙ ap (λ os. numbered os n) c.operations.ensures.exact) c.if-is_none.ensures in
+    let kept : FramesOf j c.frames.result.now = record { earliest = c.frames.ensures.earliest; latest = c.frames.ensures.latest } in
+    let few = c.operations.ensures.valid.few_operations in
+    let small = earliest_small j c.operations.ensures.valid n n (omega arith) w.0 w.1 in
+    let start = start_is j c.frames.result.now kept n no_frame w.0 w.1 in
+    let fits : SFits w16 (get_or c.frames.result.now (n - 1) no_frame).latest = search rules in
+    frame_told j c.frames.result.now kept n no_frame w.0 w.1 _ _ (to_z_pos w16 _ (omega (arith, start, small, w))) (to_z-of_z w16 _ fits)
+
+pub returns-clause-framed : goal.returns-clause-framed
+returns-clause-framed c =
+    let j = c.args.self.now in
+    let n = c.args.number in
+    let w = held j.operations n c.numbered.result (c.numbered.ensures ∙ ap (λ os. numbered os n) c.operations.ensures.exact) c.if-is_none.ensures in
+    frames_right j c.operations.ensures.valid n w.0 w.1

@@ -1,6 +1,4 @@
 use Rattle.std.proofs.lemmas.Result.{err_from_is_err_and}
-use Rattle.job.specs.Held.{job_of}
-use Rattle.tables.specs.Held.{tables_job}
 use Rattle.rules.specs.Files.{loaded}
 use Rattle.rules.proofs.Encoded.{files_stand_for_edits}
 use Rattle.rules.proofs.Outcomes.{became_wanted, stayed_refused}
@@ -11,7 +9,7 @@ pub returns-in_err-tables : goal.returns-in_err-tables
 returns-in_err-tables c =
     let p = err_from_is_err_and c.from_residual.result c.from_residual.ensures.1 in
     record {
-      exact = rw (p.1, p.2) (stayed_refused (job_of c.args.self.now) (loaded c.args.file.now) _ c.in_err-tables.ensures);
+      exact = rw (p.1, p.2) (stayed_refused c.args.self.now (loaded c.args.file.now) _ c.in_err-tables.ensures);
       read = files_are_read c.args.file.now;
       stands_for = files_stand_for_edits;
     }
@@ -19,7 +17,7 @@ returns-in_err-tables c =
 pub returns : goal.returns
 returns c =
     record {
-      exact = became_wanted (job_of c.args.self.now) (loaded c.args.file.now) (tables_job c.in_ok-tables.tables) (job_of c.of.result) c.in_ok-tables.ensures c.of.ensures;
+      exact = became_wanted c.args.self.now (loaded c.args.file.now) c.in_ok-tables.tables c.of.result c.in_ok-tables.ensures c.of.ensures;
       read = files_are_read c.args.file.now;
       stands_for = files_stand_for_edits;
     }

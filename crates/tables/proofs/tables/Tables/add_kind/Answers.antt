@@ -1,23 +1,21 @@
-use Rattle.std.proofs.Common.{length, sym, ap, arith}
-use Rattle.tables.specs.Held.{tables_job}
-use Rattle.tables.specs.Tables.{filled}
+use Rattle.std.proofs.Common.{◌<◌, length, sym, arith}
+use Rattle.std.proofs.lemmas.Bool.Decides.{nat_tests}
 use Rattle.rules.proofs.Changing.{kind_pushed}
 use Rattle.rules.proofs.Outcomes.{kind_too_slow, kind_taken}
-use Rattle.rules.proofs.Validity.{valid_out}
+use Rattle.tables.specs.Tables.{made_up}
 use Rattle.tables.proofs.tables.Tables.add_kind.Goals as goal
 
 pub returns-then-not-restarts_within : goal.returns-then-not-restarts_within
 returns-then-not-restarts_within c =
-    kind_too_slow (tables_job c.args.self.now) c.args.kind (omega (arith, ap length c.as_slice.ensures))
-    (sym c.if-not-restarts_within.ensures)
+    let room : length c.self.inside.kinds.items < 8 = grind (arith, nat_tests) in
+    rw (← c.self.view_is) (kind_too_slow (made_up c.self.inside) c.args.kind room (sym c.if-not-restarts_within.ensures))
 
 pub invariant_of-self : goal.invariant_of-self
-invariant_of-self c = record {
-  valid = ∣ kind_pushed (tables_job c.args.self.now) c.args.kind (filled c.push.new.self) (valid_out c.args.self.now.valid)
-      (omega (arith, ap length c.as_slice.ensures)) (sym c.if-not-restarts_within.ensures) c.push.ensures ∣₁;
-}
+invariant_of-self c =
+    let room : length c.self.inside.kinds.items < 8 = grind (arith, nat_tests) in
+    kind_pushed (made_up c.self.inside) c.args.kind c.push.new.self.items c.self.invariant room (sym c.if-not-restarts_within.ensures) c.push.ensures.items
 
 pub returns : goal.returns
 returns c =
-    kind_taken (tables_job c.args.self.now) c.args.kind (omega (arith, ap length c.as_slice.ensures)) (sym c.if-not-restarts_within.ensures)
-    (filled c.push.new.self) c.push.ensures
+    let room : length c.self.inside.kinds.items < 8 = grind (arith, nat_tests) in
+    rw (← c.self.view_is) (kind_taken (made_up c.self.inside) c.args.kind room (sym c.if-not-restarts_within.ensures) c.push.new.self.items c.push.ensures.items)

@@ -1,6 +1,5 @@
-use Rattle.tables.specs.Held.{tables_job}
 use Rattle.tables.proofs.EarliestLoop.{Told}
 use Rattle.tables.proofs.tables.Tables.earliest_starts.Given as goal
 
-abbrev pub invariant-loop-i : goal.invariant-loop-i
-invariant-loop-i l = Told (tables_job l.self) l.starts l.ready l.i
+abbrev pub invariant-loop-operation : goal.invariant-loop-operation
+invariant-loop-operation l = Told l.self l.starts.items l.ready.items l.operation-index

@@ -1,65 +1,62 @@
-use Rattle.std.proofs.Common.{◌≡◌, ◌+◌, ◌≤◌, cond, ◌⊎◌, length, get_or, take, drop, ℤ, pos, ◌-ℤ◌, sym, ap, ◌∙◌, ap₂, subst₂, inl, inr, arith}
+use Rattle.std.proofs.Common.{◌≡◌, suc, ◌+◌, ◌*◌, ◌∷◌, ◌⊎◌, inl, inr, length, pos, ◌-ℤ◌, to_z, of_z, w16, sym, ap, ap₂, ◌∙◌, subst, arith, rules}
 use Rattle.std.specs.Int.{int_min}
+use Rattle.std.proofs.lemmas.Int.{to_z-of_z}
+use Rattle.std.proofs.lemmas.Slice.Zip.{either_empty_from_Zip}
+use Rattle.std.specs.Iterator.Adapters.{zip_first, zip_second}
+use Rattle.std.specs.Slice.Iter.{iter_rest}
 use Rattle.std.proofs.lemmas.Int.{ints}
+use Rattle.rules.specs.Frames.{before_users, last_start, latests_from}
 use Rattle.rules.specs.Jobs.{duration_of}
-use Rattle.rules.specs.Frames.{least, uses, before_users}
-use Rattle.tables.specs.Held.{tables_job}
-use Rattle.rules.proofs.Durations.{no_operation, duration_short}
-use Rattle.tables.proofs.LatestLoop.{users_more, limit_used, limit_unused, start_within, latest_found}
-use Rattle.rules.proofs.Validity.{valid_out}
+use Rattle.rules.proofs.Durations.{duration_short}
+use Rattle.tables.proofs.LatestLoop.{Within, within_lower, latests_within, users_more, users_done, limit_used}
 use Rattle.tables.proofs.tables.Tables.latest_start.Goals as goal
-use Rattle.tables.proofs.tables.Tables.latest_start.Goals.{then-user-number, then-user-number-via-then-user-number, then-user-number-via-else-user-number+then-user-number-2, else-user-number+else-user-number-2}
+use Rattle.tables.proofs.tables.Tables.latest_start.Goals.{then-user-number-via-then-user-number, then-user-number-via-else-user-number+then-user-number-2}
 
-pub loop-q-init : goal.loop-q-init
-loop-q-init c =
-    let j = tables_job c.args.self.now in
-    let d = duration_of j (get_or c.as_slice-rows.result.now c.args.i no_operation) in
-    let short : d ≤ 8 = duration_short j (get_or c.as_slice-rows.result.now c.args.i no_operation) in
-    let same : c.duration-duration.result ≡ d = c.duration-duration.ensures in
-    let valid = valid_out c.args.self.now.valid in
-    ap (λ z. before_users (c.args.i + 1) d z (drop (c.args.i + 1) c.as_slice-rows.result.now) (drop (c.args.i + 1) (take (length c.as_slice-rows.result.now) c.args.starts.now)))
-    (omega (arith, ints, valid.few_steps))
+pub loop-user-init : goal.loop-user-init
+loop-user-init c =
+    let j = c.args.self.now in
+    let n = c.args.number in
+    let d = duration_of j c.args.operation in
+    let it = c.into_iter-user-iterator.result in
+    let first : iter_rest (zip_first it) ≡ c.args.later.now = ap (λ i. iter_rest (zip_first i)) c.into_iter-user-iterator.ensures.into_iter_gives ∙ ap iter_rest c.zip-user-items.ensures.first ∙ c.iter.ensures.rest in
+    let second : iter_rest (zip_second it) ≡ c.args.starts.now = ap (λ i. iter_rest (zip_second i)) c.into_iter-user-iterator.ensures.into_iter_gives ∙ c.zip-user-items.ensures.second.0 in
+    let steps : c.self.inside.steps ≡ j.steps = ap (λ x. x.steps) c.self.view_is in
+    let low = within_lower (8 * length c.args.later.now) 512 (latests_from j (n + 1) c.args.later.now) (omega (arith, c.requires.few)) (latests_within j (omega (arith, steps, c.self.invariant.some_steps)) (omega (arith, steps, c.self.invariant.few_steps)) (n + 1) c.args.later.now) in (
+      (tt, tt),
+      tt,
+      subst (Within 512) (sym (second ∙ c.requires.known)) low,
+      ap (λ z. before_users n d z (iter_rest (zip_first it)) (iter_rest (zip_second it))) (omega (arith, ints, steps, c.self.invariant.few_steps, c.duration-duration.ensures, duration_short j c.args.operation))
+          ∙ ap₂ (before_users n d (last_start j d)) first second,
+    )
 
-pub overflow_sub-starts : goal.overflow_sub-starts
-overflow_sub-starts c =
-    let j = tables_job c.args.self.now in
-    let rows : length c.as_slice-rows.result.now ≡ length j.operations = ap length c.as_slice-rows.ensures in
-    let short : c.duration-duration.result ≤ 8 = omega (arith, c.duration-duration.ensures, duration_short j (get_or c.as_slice-rows.result.now c.args.i no_operation)) in
-    let start = start_within j c.args.i c.loop-q.q c.args.starts.now (valid_out c.args.self.now.valid) c.requires.later (omega arith) (omega arith) c.told-starts in
-    omega (arith, ints, start.0, start.1)
-
-pub loop-q-preserved : goal.loop-q-preserved
-loop-q-preserved c =
-    let j = tables_job c.args.self.now in
-    let n = c.args.i + 1 in
-    let o = get_or c.as_slice-rows.result.now c.loop-q.q no_operation in
-    let d = duration_of j (get_or c.as_slice-rows.result.now c.args.i no_operation) in
-    let z = get_or c.args.starts.now c.loop-q.q (pos 0) in
-    let rows : length c.as_slice-rows.result.now ≡ length j.operations = ap length c.as_slice-rows.ensures in
-    let few = (valid_out c.args.self.now.valid).few_operations in
-    let same : c.duration-duration.result ≡ d = c.duration-duration.ensures in
-    let short : d ≤ 8 = duration_short j (get_or c.as_slice-rows.result.now c.args.i no_operation) in
-    let start = start_within j c.args.i c.loop-q.q c.args.starts.now (valid_out c.args.self.now.valid) c.requires.later (omega arith) (omega arith) c.told-starts in
-    let next : c.if-user-number.latest ≡ cond (uses n o) (least c.loop-q.latest (z -ℤ pos d)) c.loop-q.latest =
-    elim c.if-user-number.branch [
-      | then-user-number w ↦
-          let by : (o.left ≡ n) ⊎ (o.right ≡ n) =
-          elim w.then-user-number.branch [
-            | then-user-number-via-then-user-number v ↦ inl v.if-user-number.true
-            | then-user-number-via-else-user-number+then-user-number-2 v ↦ inr v.if-user-number-2.true
-          ] in
-          let is : c.if-user-number.latest ≡ w.min-latest.result = omega (arith, ints, w.latest-is, w.min-latest.type_inv) in
-          limit_used n d o c.loop-q.latest _ z by
-          (is ∙ w.min-latest.ensures.value ∙ ap₂ int_min c.loop-q.latest-is (omega (arith, ints, start.0, start.1)))
-      | else-user-number+else-user-number-2 w ↦
-          limit_unused n d o c.loop-q.latest _ z w.if-user-number.false w.if-user-number-2.false (omega (arith, ints, w.latest-is))
+pub loop-user-preserved-in-loop-user : goal.loop-user-preserved-in-loop-user
+loop-user-preserved-in-loop-user c =
+    let d = duration_of c.args.self.now c.args.operation in
+    let o = c.in-Some.user.now in
+    let z = c.in-Some.start.now in
+    let by : (o.left ≡ c.args.number) ⊎ (o.right ≡ c.args.number) =
+    elim c.then-user-number.branch [
+      | then-user-number-via-then-user-number v ↦ inl v.if-user-number.true
+      | then-user-number-via-else-user-number+then-user-number-2 v ↦ inr v.if-user-number-2.true
     ] in
-    let P : ℤ → ℤ → Type 0 = λ limit latest. latest ≡ cond (uses n o) (least limit (z -ℤ pos d)) limit in
-    users_more n d c.as_slice-rows.result.now c.args.starts.now _ _ c.loop-q.q no_operation c.loop-q-test.true (omega (arith, c.told-starts)) (subst₂ P (sym c.loop-q.latest-is) (sym c.if-user-number.latest-is) next)
-    ∙ c.loop-q.invariant
+    let steps = c.in-Some.ensures.steps in
+    let within : Within 512 (z ∷ iter_rest (zip_second c.next.new.self)) = subst (Within 512) steps.1 c.loop-user.invariant.2 in
+    let short = duration_short c.args.self.now c.args.operation in
+    let less : to_z w16 (of_z w16 (to_z w16 (of_z w16 z) -ℤ to_z w16 c.duration-duration.result)) ≡ z -ℤ pos d = omega (arith, ints, within.0, within.1, short, c.duration-duration.ensures) in
+    let is : to_z w16 (of_z w16 c.min-latest.result) ≡ int_min (to_z w16 c.loop-user.latest-bits) (z -ℤ pos d) =
+    to_z-of_z w16 _ (search rules) ∙ c.min-latest.ensures.value ∙ ap (int_min (to_z w16 c.loop-user.latest-bits)) less in (
+      (tt, tt),
+      tt,
+      within.2,
+      users_more c.args.number d o (to_z w16 c.loop-user.latest-bits) _ z _ _ _ _ steps.0 steps.1 (limit_used c.args.number d o (to_z w16 c.loop-user.latest-bits) _ z by is)
+          ∙ c.loop-user.invariant.3,
+    )
 
 pub returns : goal.returns
 returns c =
-    let rows : length c.as_slice-rows.result.now ≡ length (tables_job c.args.self.now).operations = ap length c.as_slice-rows.ensures in
-    latest_found (tables_job c.args.self.now) c.as_slice-rows.result.now c.args.starts.now c.args.i c.loop-q.q no_operation _
-    c.as_slice-rows.ensures (omega (arith, c.requires.held)) c.requires.later c.loop-q-test.false c.loop-q.invariant
+    let d = duration_of c.args.self.now c.args.operation in
+    let it = c.loop-user.user-iterator in
+    let first = users_done c.args.number d (to_z w16 c.loop-user.latest-bits) (iter_rest (zip_first it)) (iter_rest (zip_second it)) (either_empty_from_Zip it c.next.new.self c.next.result c.in-None.is c.next.ensures.steps) in
+    let next : c.args.number + 1 ≡ suc c.args.number = omega arith in
+    let known : c.args.starts.now ≡ latests_from c.args.self.now (suc c.args.number) c.args.later.now = c.requires.known ∙ ap (λ m. latests_from c.args.self.now m c.args.later.now) next in
+    ap₂ (λ z zs. z ∷ zs) (sym first ∙ c.loop-user.invariant.3 ∙ ap (before_users c.args.number d (last_start c.args.self.now d) c.args.later.now) known) known

@@ -1,12 +1,16 @@
-use Rattle.std.proofs.Common.{◌≡◌, ◌+◌, length, get_or, take, drop}
-use Rattle.rules.specs.Jobs.{duration_of}
+use Rattle.std.proofs.Common.{◌≡◌}
+use Rattle.std.specs.Iterator.Adapters.{zip_first, zip_second}
+use Rattle.std.specs.Slice.Iter.{iter_rest}
 use Rattle.rules.specs.Frames.{before_users, last_start}
-use Rattle.tables.specs.Held.{tables_job}
-use Rattle.rules.proofs.Durations.{no_operation}
+use Rattle.rules.specs.Jobs.{duration_of}
+use Rattle.tables.proofs.LatestLoop.{Within}
 use Rattle.tables.proofs.tables.Tables.latest_start.Given as goal
 
-abbrev pub invariant-loop-q : goal.invariant-loop-q
-invariant-loop-q l =
-    let d = duration_of (tables_job l.self) (get_or l.rows l.i no_operation) in
-    before_users (l.i + 1) d l.latest (drop l.q l.rows) (drop l.q (take (length l.rows) l.starts))
-    ≡ before_users (l.i + 1) d (last_start (tables_job l.self) d) (drop (l.i + 1) l.rows) (drop (l.i + 1) (take (length l.rows) l.starts))
+abbrev pub invariant-loop-user : goal.invariant-loop-user
+invariant-loop-user l =
+    let d = duration_of l.self l.fn.operation in
+    (goal.iterator-loop-user).can_next l.user-iterator
+    × (goal.iterator-loop-user).is_finite l.user-iterator
+    × Within 512 (iter_rest (zip_second l.user-iterator))
+    × (before_users l.number d l.latest (iter_rest (zip_first l.user-iterator)) (iter_rest (zip_second l.user-iterator))
+    ≡ before_users l.number d (last_start l.self d) l.later l.starts)

@@ -1,9 +1,12 @@
-use Rattle.std.proofs.Common.{◌≡◌, length, pos}
-use Rattle.tables.specs.Held.{tables_job}
-use Rattle.tables.proofs.LatestLoop.{Known}
-use Rattle.tables.proofs.Padded.{Spare}
+use Rattle.std.proofs.Common.{◌≡◌}
+use Rattle.std.specs.Iterator.Adapters.{enumerate_count, enumerate_source, rev_source}
+use Rattle.std.specs.Slice.Iter.{iter_rest}
+use Rattle.tables.proofs.LatestLoop.{Behind}
 use Rattle.tables.proofs.tables.Tables.latest_starts.Given as goal
 
 abbrev pub invariant-loop-i : goal.invariant-loop-i
 invariant-loop-i l =
-    (length l.starts ≡ 64) × Known (tables_job l.self) l.starts l.i × Spare (pos 0) l.starts (length (tables_job l.self).operations)
+    (goal.iterator-loop-i).can_next l.i-iterator
+    × (goal.iterator-loop-i).is_finite l.i-iterator
+    × (enumerate_count (rev_source l.i-iterator) ≡ 0)
+    × Behind l.self (iter_rest (enumerate_source (rev_source l.i-iterator))) l.starts.items

@@ -1,41 +1,56 @@
-use Rattle.std.proofs.Common.{◌≡◌, ℕ, ◌-◌, take, sym, ap, ◌∙◌, arith}
-use Rattle.windows.specs.Chains.{last_at}
-use Rattle.windows.specs.Counts.{listed, starting}
-use Rattle.windows.proofs.Chains.{starting_last}
-use Rattle.windows.proofs.Counting.{held_all, sum_all}
-use Rattle.windows.proofs.Rows.{done_none, done_skipped, done_raised, done_all}
+use Rattle.std.proofs.Common.{◌+◌, ◌-◌, ◌≡◌, sym, ◌∙◌, arith}
+use Rattle.windows.specs.Counts.{Tallies}
+use Rattle.windows.proofs.Counting.{held_all, held_few, sum_all}
+use Rattle.windows.proofs.Order.{before_all, front_all, front_ordered, front_starting, front_fewer, front_more, front_none, tallied_more}
+use Rattle.windows.proofs.Rows.{done_none, done_skipped, done_raised}
 use Rattle.windows.proofs.timing.Timing.greatest_floor.Goals as goal
+use Rattle.windows.proofs.timing.Timing.greatest_floor.Goals.{then-earlier-rest, else-earlier-rest}
 
 pub loop-begin-init : goal.loop-begin-init
-loop-begin-init c = done_none _ _ _ _ c.requires c.new-tally.result.ends (sym c.new-tally.result.added ∙ c.new-tally.ensures)
+loop-begin-init c = record {
+  done = done_none _ _ _ _ c.requires.inside c.new-tally.result.ends (sym c.new-tally.result.added ∙ c.new-tally.ensures);
+  front = front_all _ _;
+  before = before_all c.args.self.steps c.args.stays.now c.requires.inside;
+}
 
-pub loop-begin-preserved-then-stays-begin-eq0 : goal.loop-begin-preserved-then-stays-begin-eq0
-loop-begin-preserved-then-stays-begin-eq0 c =
-    let stays = c.args.stays.now in
-    let s = c.loop-begin.begin - 1 in
-    let last : last_at stays.items s stays.count ≡ 0 = sym (stays.starts s (omega arith)) ∙ c.if-stays-begin-eq0.true in
-    let none : (e : ℕ) → starting s e (listed stays) ≡ 0 =
-    λ e. starting_last s e stays.items stays.count (omega arith) ∙ ap (λ n. starting s e (take n stays.items)) last in
-    done_skipped _ _ _ _ _ c.loop-begin-test.true _ _ c.loop-begin.invariant c.requires c.loop-begin.auto.begin none
+pub take_in-earlier-requires-clause-few : goal.take_in-earlier-requires-clause-few
+take_in-earlier-requires-clause-few c =
+    let s = c.loop-begin.begin in
+    let tally = c.loop-begin.tally in
+    omega (arith, tally.added, sum_all (s + 1) tally.ends c.args.stays.now tally.whole c.loop-begin.invariant.done.tallied, held_few (s + 1) 64 c.args.stays.now, front_fewer s c.loop-begin.invariant.front)
 
-pub raise_row-most-requires : goal.raise_row-most-requires
-raise_row-most-requires c =
-    let stays = c.args.stays.now in
-    let tally = c.take_in.new.self in
-    let s = c.loop-begin.begin - 1 in
-    record {
-      within = (omega arith, omega arith);
-      ended =
-          tally.added
-          ∙ sum_all s tally.ends (listed stays) tally.whole c.take_in.ensures
-          ∙ held_all c.args.self.steps (listed stays) c.requires s c.args.self.few_steps
-          ∙ sym (c.take_in.ensures c.args.self.steps c.args.self.few_steps);
-    }
+pub take_in-earlier-requires-clause-ordered : goal.take_in-earlier-requires-clause-ordered
+take_in-earlier-requires-clause-ordered c =
+    let front = c.loop-begin.invariant.front in
+    front_ordered _ front.back (rw front.whole at c.requires.ordered)
+
+pub raise_row-most-requires-clause-ended : goal.raise_row-most-requires-clause-ended
+raise_row-most-requires-clause-ended c =
+    let tally = c.take_in-earlier.new.self in
+    let s = c.loop-begin.begin in
+    let tallied : Tallies s c.args.stays.now tally.ends = tallied_more s _ _ _ _ c.loop-begin.invariant.front c.loop-begin.invariant.done.tallied c.take_in-earlier.ensures.ends in
+    tally.added
+    ∙ sum_all s tally.ends c.args.stays.now tally.whole tallied
+    ∙ held_all c.args.self.steps c.args.stays.now c.requires.inside s c.args.self.few_steps
+    ∙ sym (tallied c.args.self.steps c.args.self.few_steps)
 
 pub loop-begin-preserved : goal.loop-begin-preserved
 loop-begin-preserved c =
-    done_raised _ _ _ _ _ c.loop-begin-test.true _ _ c.loop-begin.invariant c.args.self.few_steps
-    c.take_in.new.self.ends c.take_in.ensures c.raise_row-most.result c.raise_row-most.ensures
-
-pub returns : goal.returns
-returns c = done_all _ _ _ _ _ _ _ c.loop-begin.invariant c.loop-begin-test.false
+    let tally = c.take_in-earlier.new.self in
+    let s = c.loop-begin.begin in
+    let front = c.loop-begin.invariant.front in
+    let here : s - 1 + 1 ≡ s = omega arith in
+    let tallied : Tallies s c.args.stays.now tally.ends = tallied_more s _ _ _ _ front c.loop-begin.invariant.done.tallied c.take_in-earlier.ensures.ends in
+    record {
+      front = rw here (front_more s front c.take_in-earlier.ensures.front);
+      before = rw here c.take_in-earlier.ensures.before;
+      done =
+          elim c.if-earlier-rest.branch [
+            | then-earlier-rest w ↦
+                done_raised _ _ _ _ c.loop-begin.invariant.done (omega arith) (omega arith) c.args.self.few_steps tally.ends tallied _ (w.most-is ∙ w.raise_row-most.ensures)
+            | else-earlier-rest w ↦
+                rw w.most-is
+                (done_skipped _ _ _ _ c.loop-begin.invariant.done (omega arith) (omega arith) c.requires.inside tally.ends tallied
+                (λ e. front_starting s front e ∙ front_none c.take_in-earlier.ensures.front c.take_in-earlier.ensures.before w.if-earlier-rest.false e))
+          ];
+    }
