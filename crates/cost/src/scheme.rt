@@ -22,7 +22,7 @@ pub trait Scheme {
     fn sum(&self, a: Self::Value, b: Self::Value) -> Self::Value
         ensures { result ≡ (means self.now).sum a b };
 
-    /// Whether `a` is at most `b`.
+    /// Whether `a` is at most `b`. No `Ord` of the values, since a scheme has an order of its own.
     fn at_most(&self, a: Self::Value, b: Self::Value) -> bool
         ensures { result ≡ (means self.now).at_most a b };
 

@@ -1,9 +1,10 @@
 -- Taking the records of a file one by one, as the loader does.
-use Rattle.std.proofs.Common.{◌≡◌, ℕ, zero, suc, ◌+◌, ◌-◌, ◌*◌, ◌<◌, ◌≤◌, ◌⊎◌, true, cond, ◌&&◌, eqb, ltb, List, [], ◌∷◌, length, get_or, take, drop, Some, None, Ok, Err, Result, sym, refl, ap, ◌∙◌, subst, ap₂, arith, Bor}
+use Rattle.std.proofs.Common.{Option, ◌≡◌, ℕ, zero, suc, ◌+◌, ◌-◌, ◌*◌, ◌<◌, ◌≤◌, ◌⊎◌, true, cond, ◌&&◌, eqb, ltb, List, [], ◌∷◌, length, get_or, take, drop, Some, None, Ok, Err, Result, sym, refl, ap, ◌∙◌, subst, ap₂, arith, Bor}
 use Rattle.std.proofs.lemmas.List.{length-drop, take_all}
 use Rattle.std.proofs.lemmas.Bool.{cond-true, cond-false, lt-ltb, le-ltb, eq-eqb, and_from}
 use Rattle.std.proofs.lemmas.Bool.Decides.{nat_tests}
 use Rattle.rules.specs.Files.{word, edit_of, with_record, with_records, loaded}
+use Rattle.std.specs.Option.{ok_or}
 use Rattle.std.specs.Result.{result_ok}
 use Rattle.std.proofs.lemmas.Option.{none-some}
 use Rattle.rules.specs.declared.refusal.Refusal.{Refusal}
@@ -99,3 +100,7 @@ untagged (tag ∷ fields) some none = grind (arith, nat_tests)
 pub no_tag : (byte : ℕ) (r : Result Tag Refusal) → Tagged byte r → result_ok r ≡ None → (byte ≡ 0) ⊎ (4 < byte)
 no_tag byte (Ok tag) told e = absurd (none-some tag (sym e))
 no_tag byte (Err why) told e = told.1
+
+pub was_some : {X E : Type 0} (e : E) {x : X} (o : Option X) → ok_or o e ≡ Ok x → o ≡ Some x
+was_some e None is = absurd (cc)
+was_some e {x = x} (Some y) is = let same : y ≡ x = cc in ap Some same

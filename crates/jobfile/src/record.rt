@@ -1,5 +1,7 @@
 //! The records of a job file: a length in two bytes, a tag and fields.
 ghost use Rattle.std.specs.Prelude.{◌≡◌, ◌≤◌, length};
+ghost use Rattle.std.specs.Option.{ok_or};
+ghost use Rattle.rules.specs.declared.refusal.Refusal.TheVariants.{UnknownRecord};
 ghost use Rattle.rules.specs.Files.{edit_of};
 ghost use Rattle.jobfile.specs.Records.{Split, Takes};
 
@@ -10,14 +12,14 @@ use rules::operation::Operation;
 use rules::refusal::Refusal;
 use tables::tables::Tables;
 
-// The edit that a record stands for, given without its length: a tag and its fields, with nothing left over.
-fn edit_of(body: &[u8]) -> Option<Edit>
-    ensures { result ≡ edit_of body.now }
+// The edit that a record stands for, given without its length: a tag and its fields, with nothing left over. Refused: 7 it is unknown.
+fn edit_of(body: &[u8]) -> Result<Edit, Refusal>
+    ensures { result ≡ ok_or (edit_of body.now) UnknownRecord }
 {
     let [tag, fields @ ..] = body else {
-        return None;
+        return Err(Refusal::UnknownRecord);
     };
-    match (Tag::try_from(*tag).ok()?, fields) {
+    match (Tag::try_from(*tag)?, fields) {
         (
             Tag::Kind,
             [
@@ -29,27 +31,27 @@ fn edit_of(body: &[u8]) -> Option<Edit>
                 draw_high,
                 draw_low,
             ],
-        ) => Some(Edit::AddKind(Figures {
+        ) => Ok(Edit::AddKind(Figures {
             duration: *duration,
             busy: *busy,
             cap: *cap,
             area: u16::from_be_bytes([*area_high, *area_low]),
             draw: u16::from_be_bytes([*draw_high, *draw_low]),
         })),
-        (Tag::Operation, [kind, left, right]) => Some(Edit::AddOperation(Operation {
+        (Tag::Operation, [kind, left, right]) => Ok(Edit::AddOperation(Operation {
             kind: *kind,
             left: *left,
             right: *right,
         })),
-        (Tag::Limits, [steps, latency]) => Some(Edit::SetLimits {
+        (Tag::Limits, [steps, latency]) => Ok(Edit::SetLimits {
             steps: *steps,
             latency: *latency,
         }),
-        (Tag::LibraryKind, [number, cap]) => Some(Edit::AddLibraryKind {
+        (Tag::LibraryKind, [number, cap]) => Ok(Edit::AddLibraryKind {
             number: *number,
             cap: *cap,
         }),
-        _ => None,
+        _ => Err(Refusal::UnknownRecord),
     }
 }
 
@@ -74,7 +76,6 @@ pub(crate) fn take_record<'a>(tables: &mut Tables, bytes: &'a [u8]) -> Result<&'
     ensures { Takes tables.old bytes.now result tables.new }
 {
     let (body, after) = split_record(bytes).ok_or(Refusal::TornRecord)?;
-    let edit = edit_of(body).ok_or(Refusal::UnknownRecord)?;
-    tables.edit(edit)?;
+    tables.edit(edit_of(body)?)?;
     Ok(after)
 }

@@ -6,10 +6,10 @@ use rules::refusal::Refusal;
 /// The tag of a record: what it stands for.
 #[derive(Clone, Copy, PartialEq, Eq, Debug)]
 pub(crate) enum Tag {
-    Kind = 1,
-    Operation = 2,
-    Limits = 3,
-    LibraryKind = 4,
+    Kind,
+    Operation,
+    Limits,
+    LibraryKind,
 }
 
 impl TryFrom<u8> for Tag {

@@ -6,7 +6,7 @@ ghost use Rattle.plan.specs.Plans.{Meet, Clash};
 use crate::placement::Placement;
 use job::Job;
 
-// How far two starts are apart, in one sample or, with a latency, going round it.
+// How far two starts are apart, in one sample or, with a latency, going round it. Latency 0 is none, as a job has it.
 fn distance(latency: u8, a: u8, b: u8) -> u8
     ensures { result ≡ distance latency a b }
 {

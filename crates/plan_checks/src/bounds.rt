@@ -24,7 +24,7 @@ fn confined(draft: Draft, kind: u8, busy: i32, first: i32, last: i32) -> usize {
     .count()
 }
 
-// The floor of one window: the work by the room for it on one unit, rounded up.
+// The floor of one window: the work by the room for it on one unit, rounded up. By hand, so as not to lean on what it checks.
 fn window_floor(count: usize, busy: usize, width: usize, latency: usize) -> usize {
     let room = if latency > 0 && latency < width {
         latency

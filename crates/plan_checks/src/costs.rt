@@ -15,10 +15,7 @@ fn priced(area: u16, draw: u16) -> Result<Kind, Fail> {
         draw,
         ..PLAIN
     })?;
-    match job.kind(1) {
-        Some(kind) => Ok(kind),
-        None => Err(Fail::new("no kind")),
-    }
+    job.kind(1).ok_or_else(|| Fail::new("no kind"))
 }
 
 #[test]

@@ -72,6 +72,7 @@ fn house_unit(number: u8) -> Option<LibraryUnit>
 }
 
 /// The unit of the house library with this number, from 1, as a kind with a cap. Refused: 4 no such number, 1 a cap out of its range.
+// a number and a cap, as `Edit::AddLibraryKind` names them
 pub fn library_kind(number: u8, cap: u8) -> Result<Kind, Refusal>
     ensures { told result ≡ kind_from (numbered house_library number) cap }
 {

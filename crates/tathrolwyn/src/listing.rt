@@ -30,15 +30,17 @@ impl Listing<'_> {
     }
 
     fn operations<W: fmt::Write>(&self, f: &mut fmt::Formatter<W>) -> fmt::Result {
-        for (number, operation) in (1..).zip(self.job.operations()) {
+        let rows = self.job.operations().iter().zip(self.job.frames());
+        for (number, (operation, frame)) in (1..).zip(rows) {
             let kind = operation.kind;
             let left = operation.left;
             let right = operation.right;
-            write!(f, "operation {number} kind {kind} operands {left} {right}")?;
-            if let Ok((earliest, latest)) = self.job.frame(number) {
-                write!(f, " frame {earliest} to {latest}")?;
-            }
-            writeln!(f)?;
+            let earliest = frame.earliest;
+            let latest = frame.latest;
+            writeln!(
+                f,
+                "operation {number} kind {kind} operands {left} {right} frame {earliest} to {latest}"
+            )?;
         }
         Ok(())
     }

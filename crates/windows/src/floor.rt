@@ -20,11 +20,15 @@ fn busy_time(job: &Job, kind: u8) -> u8
 fn count_of(operations: &[Operation], kind: u8) -> usize
     ensures { result ≡ of_kind kind operations.now }
 {
-    operations.iter().filter(|o| o.kind == kind).count()
+    operations
+        .iter()
+        .filter(|operation| operation.kind == kind)
+        .count()
 }
 
-/// A lower bound on the units that the kind numbered `kind` needs in any plan that begins with the slots of a draft. The operations that must be busy within some window of steps need that many units there, and where no two
-/// operations of the kind can share a unit, each needs its own.
+/// A lower bound on the units that the kind numbered `kind` needs in any plan that begins with the slots of a draft. The
+/// operations that must be busy within some window of steps need that many units there, and where no two operations of the
+/// kind can share a unit, each needs its own.
 pub fn windows_floor(draft: Draft, kind: u8) -> u16
     ensures { result ≡ windows draft.entry.job.now draft.entry.slots.now kind }
 {

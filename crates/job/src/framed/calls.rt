@@ -21,6 +21,7 @@ use rules::operation::Operation;
 use rules::refusal::{FileRefusal, Refusal};
 use tables::tables::Tables;
 
+// `valid` stands with the four calls that tell the parts of the job: a model shows its callers nothing of its invariant.
 impl Job {
     /// A job with no kinds, no operations, one step and latency 0.
     pub fn new() -> Self
@@ -56,6 +57,7 @@ impl Job {
 
     /// Adds a unit of the house library, by its number from 1, as a kind with a cap. Refused: 4 no such number, 1 a cap out of
     /// range, 9 a ninth kind, 13 a busy time above a latency that is not 0.
+    // a number and a cap, as `Edit::AddLibraryKind` names them
     pub fn add_library_kind(&mut self, number: u8, cap: u8) -> Result<(), Refusal>
         ensures { CarriedOut self.old (AddLibraryKind number cap) result self.new }
     {
@@ -71,6 +73,7 @@ impl Job {
 
     /// Sets the number of steps and the latency. Refused: 2 one of them out of range, 13 a kind with a busy time above a latency
     /// that is not 0.
+    // steps and a latency, as `Edit::SetLimits` names them
     pub fn set_limits(&mut self, steps: u8, latency: u8) -> Result<(), Refusal>
         ensures { CarriedOut self.old (SetLimits steps latency) result self.new }
     {
@@ -90,16 +93,16 @@ impl Job {
         Ok(())
     }
 
+    // A pair and no `Frame`: both ends are told as signed numbers.
     /// The frame of an operation by its number from 1: its earliest and its latest start. A latest start may be zero or negative.
     /// Refused: 15 an operation that is not held.
     pub fn frame(&self, number: u8) -> Result<(i16, i16), Refusal>
         ensures exact { told result ≡ frame_of self.now number }
         ensures framed { OnOk result (Framed self.now number) }
     {
-        if numbered(self.operations(), number).is_none() {
-            return Err(Refusal::UnknownOperation);
-        }
-        let frame = self.frames()[number as usize - 1];
+        // for the ranges alone, which come with the rows
+        let _ = self.operations();
+        let frame = numbered(self.frames(), number).ok_or(Refusal::UnknownOperation)?;
         Ok((frame.earliest as i16, frame.latest))
     }
 
@@ -144,14 +147,16 @@ impl Job {
 
     /// The number of steps of a sample.
     pub fn steps(&self) -> u8
-        ensures { result ≡ self.now.steps }
+        ensures exact { result ≡ self.now.steps }
+        ensures valid { Valid self.now }
     {
         self.tables.steps()
     }
 
     /// The steps from one sample to the next, 0 where a sample is through before the next begins.
     pub fn latency(&self) -> u8
-        ensures { result ≡ self.now.latency }
+        ensures exact { result ≡ self.now.latency }
+        ensures valid { Valid self.now }
     {
         self.tables.latency()
     }

@@ -16,6 +16,7 @@ pub(super) fn frames_of(tables: &Tables) -> ArrayVec<Frame, MOST_OPERATIONS>
         .iter()
         .zip(latest_starts.as_slice());
     let mut frames = ArrayVec::new();
+    // by `push`, since to collect takes an allocator
     for (earliest, latest) in starts {
         frames.push(Frame {
             earliest: *earliest,

@@ -7,16 +7,16 @@ ghost use Rattle.plan.specs.Plans.{Stands, DoneBy, Apart, Kept};
 use super::Draft;
 use crate::clashes::clash;
 use crate::placement::Placement;
+use rules::by_number::numbered;
 
 impl Draft<'_> {
     // The operation with this number, from 1, and its slot, if it has one.
     fn standing(self, number: u8) -> Option<Placement>
         ensures { MatchOption result ((o : Operation) (s : Slot) → Stands self.entry.job.now self.entry.slots.now number o s → ⊥) (λ w. Stands self.entry.job.now self.entry.slots.now number w.operation w.slot) }
     {
-        let index = (number as usize).checked_sub(1)?;
         Some(Placement {
-            operation: *self.job.operations().get(index)?,
-            slot: *self.slots.get(index)?,
+            operation: numbered(self.job.operations(), number)?,
+            slot: numbered(self.slots, number)?,
         })
     }
 

@@ -46,7 +46,7 @@ impl Default for Kind {
 }
 
 impl Kind {
-    /// Whether, at a latency, a unit of this kind is free again when the next sample comes.
+    /// Whether, at a latency, 0 for none as a job has it, a unit of this kind is free again when the next sample comes.
     pub fn restarts_within(&self, latency: u8) -> bool
         ensures { result ≡ restarts latency self.now }
     {

@@ -12,7 +12,7 @@ use rules::library::library_kind;
 use rules::operation::Operation;
 use rules::refusal::Refusal;
 
-// Whether a number of steps and a latency are such as a job may have.
+// Whether a number of steps and a latency, as `Edit::SetLimits` names them, are such as a job may have.
 fn in_range(steps: u8, latency: u8) -> bool
     ensures { result ≡ ((nat_le 1 steps && nat_le steps 64) && nat_le latency 64) }
 {
@@ -50,7 +50,7 @@ impl Tables {
     fn kind_held(&self, number: u8) -> bool
         ensures { result ≡ (nat_le 1 number && nat_le number (length self.now.kinds)) }
     {
-        number >= 1 && number as usize <= self.kinds.len()
+        self.kind(number).is_some()
     }
 
     // Whether an operand is an outside input, or an operation that is held.

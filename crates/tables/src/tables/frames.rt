@@ -20,6 +20,7 @@ impl Tables {
         ensures { result.items ≡ earliests self.now }
     {
         let mut starts = ArrayVec::new();
+        // beside the starts, since it is asked for here alone
         let mut ready = ArrayVec::<u16, MOST_OPERATIONS>::new();
         for operation in self.operations() {
             let left = readable(ready.as_slice(), operation.left);

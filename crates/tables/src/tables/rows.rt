@@ -7,7 +7,7 @@ use rules::by_number::numbered;
 use rules::kind::Kind;
 use rules::operation::Operation;
 
-// `valid` stands with the two calls that lend rows: a model shows its callers nothing of its invariant.
+// `valid` stands with the four calls that tell the parts of the job: a model shows its callers nothing of its invariant.
 impl Tables {
     /// The kinds, in the order of their numbers.
     pub fn kinds(&self) -> &[Kind]
@@ -27,14 +27,16 @@ impl Tables {
 
     /// The number of steps of a sample.
     pub fn steps(&self) -> u8
-        ensures { result ≡ self.now.steps }
+        ensures exact { result ≡ self.now.steps }
+        ensures valid { Valid self.now }
     {
         self.steps
     }
 
     /// The steps from one sample to the next, 0 where a sample is through before the next begins.
     pub fn latency(&self) -> u8
-        ensures { result ≡ self.now.latency }
+        ensures exact { result ≡ self.now.latency }
+        ensures valid { Valid self.now }
     {
         self.latency
     }

@@ -15,6 +15,7 @@ impl Stay {
             return None;
         }
         let begin = frame.earliest.min(timing.steps as u16) as u8;
+        // no `max`, which would be of a signed number, and cast all the same
         let end = if free > 1 { (free - 1) as u8 } else { 0 };
         Some(Stay { begin, end })
     }

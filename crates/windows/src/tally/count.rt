@@ -5,7 +5,7 @@ ghost use Rattle.windows.specs.Counts.{starting, Ordered, Before, Front};
 use super::{STEP_ROWS, Tally};
 use crate::stay::Stay;
 
-// `Ordered` is asked of slices of the sorted stays, which a struct could not hand on.
+// `Ordered` is asked of slices of the sorted stays: a struct of a slice and that fact would be made anew at each step.
 impl Tally {
     // A tally of no stays.
     pub(crate) fn new() -> Self
@@ -37,6 +37,7 @@ impl Tally {
         ensures before { Before step result.now }
         ensures ends { (e : ℕ) → e ≤ 64 → sum (take (e + 1) self.new.ends) ≡ sum (take (e + 1) self.old.ends) + starting step e stays.now }
     {
+        // from the back, one by one: each is counted, so that there is nothing to search
         let mut rest = stays;
         while let Some((last, before)) = rest.split_last()
             && last.begin == step

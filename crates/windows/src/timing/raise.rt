@@ -9,7 +9,7 @@ fn raised(floor: u16, work: u16, room: u8) -> u16
     requires { 1 ≤ room }
     ensures { result ≡ max floor (rounded_up work room) }
 {
-    // Most floors stay, and a product costs less than a quotient.
+    // Most floors stay, and `floor.max(..)` of the quotient, tried on the elliptic filter, took a fifth longer.
     if floor as u32 * room as u32 >= work as u32 {
         return floor;
     }

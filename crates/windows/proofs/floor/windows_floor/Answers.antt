@@ -14,7 +14,7 @@ overflow_cast-count_of c =
 pub returns-then-timing : goal.returns-then-timing
 returns-then-timing c =
     c.max.ensures
-    ∙ windows_is c.args.draft.job.now c.args.draft.slots.now c.args.kind _ _ _ c.steps.ensures c.latency.ensures c.busy_time.ensures
+    ∙ windows_is c.args.draft.job.now c.args.draft.slots.now c.args.kind _ _ _ c.steps.ensures.exact c.latency.ensures.exact c.busy_time.ensures
     c.gather-stays.result.items _ _ c.gather-stays.ensures.kept (rw c.deref.ensures.0 at c.greatest_floor-most.ensures) (c.count_of.ensures ∙ ap (of_kind c.args.kind) c.operations-operations.ensures.exact) true (grind (arith, nat_tests))
 
 pub returns : goal.returns
@@ -27,5 +27,5 @@ returns c =
     ] in
     let same : most.result ≡ max most.result 0 = omega arith in
     same
-    ∙ windows_is c.args.draft.job.now c.args.draft.slots.now c.args.kind _ _ _ c.steps.ensures c.latency.ensures c.busy_time.ensures
+    ∙ windows_is c.args.draft.job.now c.args.draft.slots.now c.args.kind _ _ _ c.steps.ensures.exact c.latency.ensures.exact c.busy_time.ensures
     c.gather-stays.result.items _ _ c.gather-stays.ensures.kept (rw c.deref.ensures.0 at most.ensures) refl false shared

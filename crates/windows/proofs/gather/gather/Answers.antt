@@ -1,39 +1,49 @@
-use Rattle.std.proofs.Common.{◌≡◌, true, eqb, length, ap, ◌∙◌, arith, rules}
+use Rattle.std.proofs.Common.{◌≡◌, true, eqb, length, get_or, pos, refl, ap, ◌∙◌, rules, arith}
 use Rattle.std.specs.List.Sorted.{IsPermutation}
-use Rattle.std.specs.Slice.Iter.{iter_rest}
-use Rattle.std.proofs.lemmas.Bool.Decides.{nat_tests}
 use Rattle.std.proofs.lemmas.List.Sorted.{IsNonDecreasingBy-from_sort, answers_always}
-use Rattle.std.proofs.lemmas.Slice.Zip.{either_empty_from_Zip}
 use Rattle.arrayvec.proofs.ArrayVecLemmas.{items-with_items}
-use Rattle.windows.proofs.Gathering.{framed_here, at_hand, gathers_none_of, gathers_all, held_moved, inside_moved}
+use Rattle.std.proofs.lemmas.Bool.Decides.{nat_tests}
+use Rattle.std.proofs.lemmas.List.{length-map}
+use Rattle.rules.specs.declared.frame.Frame.{Frame}
+use Rattle.rules.proofs.Durations.{no_operation}
+use Rattle.windows.specs.Windows.{frames_with, confined}
+use Rattle.windows.proofs.Framing.{frames_whole}
+use Rattle.windows.proofs.Gathering.{gathers_other, gathers_none_of, gathers_stay, gathers_all, held_moved, inside_moved}
 use Rattle.windows.proofs.gather.gather.Goals as goal
+use Rattle.windows.proofs.gather.gather.Goals.{in-Some, in_default}
 
-pub loop-operation-preserved : goal.loop-operation-preserved
-loop-operation-preserved c =
-    let steps = c.in-Some.ensures.steps in
-    let is : eqb c.in-Some.operation.now.kind c.args.kind ≡ true = grind (arith, nat_tests) in
-    let here = framed_here c.next-in-loop-operation.result c.map_or-frame.result c.in-Some.own.now _ _ _ c.next-in-loop-operation.ensures.steps c.map_or-frame.ensures in
-    ((tt, tt), tt, gathers_none_of (at_hand _ (iter_rest c.next-in-loop-operation.new.self) c.loop-operation.invariant.2 steps.0 steps.1 here) is c.in_default.ensures)
+pub loop-i-preserved-then-operation-kind : goal.loop-i-preserved-then-operation-kind
+loop-i-preserved-then-operation-kind c =
+    let whole = frames_whole c.args.draft.job.now c.args.draft.slots.now c.operations-operation-items.ensures.exact c.frames-frames.ensures.earliest c.frames-frames.ensures.latest in
+    gathers_other c.loop-i.invariant c.loop-i-test.true whole.2 no_operation _ (0, pos 0) refl (grind (arith, nat_tests))
 
-pub returns-clause-kept : goal.returns-clause-kept
-returns-clause-kept c =
+pub frame-requires : goal.frame-requires
+frame-requires c =
+    let whole = frames_whole c.args.draft.job.now c.args.draft.slots.now c.operations-operation-items.ensures.exact c.frames-frames.ensures.earliest c.frames-frames.ensures.latest in
+    omega (arith, whole.0, length-map c.frames-frames.result.now (λ (f : Frame). f.earliest))
+
+pub loop-i-preserved : goal.loop-i-preserved
+loop-i-preserved c =
+    let whole = frames_whole c.args.draft.job.now c.args.draft.slots.now c.operations-operation-items.ensures.exact c.frames-frames.ensures.earliest c.frames-frames.ensures.latest in
+    let is : eqb (get_or c.operations-operation-items.result.now c.loop-i.i no_operation).kind c.args.kind ≡ true = grind (arith, nat_tests) in
+    elim c.match-of.branch [
+      | in-Some w ↦
+          rw (ap (λ v. v.items) w.stays-is ∙ w.push.ensures.items)
+          (gathers_stay c.loop-i.invariant c.loop-i-test.true whole.2 no_operation _ (0, pos 0) c.frame.ensures is w.in-Some.stay w.in-Some.ensures)
+      | in_default w ↦
+          rw w.stays-is (gathers_none_of c.loop-i.invariant c.loop-i-test.true whole.2 no_operation _ (0, pos 0) c.frame.ensures is w.in_default.ensures)
+    ]
+
+pub returns : goal.returns
+returns c =
     let sort = c.sort_unstable_by_key in
-    let moved : IsPermutation c.loop-operation.stays.items sort.new.self = rw c.deref_mut.ensures.value at sort.ensures.permutation in
-    let items = items-with_items c.loop-operation.stays sort.new.self (sort.ensures.len ∙ ap length c.deref_mut.ensures.value) in
-    let it = c.loop-operation.operation-iterator in
-    λ s e low high.
-    rw items (held_moved _ _ moved s e)
-    ∙ gathers_all _ _ _ c.loop-operation.invariant.2 (either_empty_from_Zip it c.next.new.self c.next.result c.in-None.is c.next.ensures.steps) s e low high
-
-pub returns-clause-inside : goal.returns-clause-inside
-returns-clause-inside c =
-    let sort = c.sort_unstable_by_key in
-    let moved : IsPermutation c.loop-operation.stays.items sort.new.self = rw c.deref_mut.ensures.value at sort.ensures.permutation in
-    let items = items-with_items c.loop-operation.stays sort.new.self (sort.ensures.len ∙ ap length c.deref_mut.ensures.value) in
-    rw items (inside_moved _ _ moved c.args.timing.steps c.loop-operation.invariant.2.inside)
-
-pub returns-clause-ordered : goal.returns-clause-ordered
-returns-clause-ordered c =
-    let sort = c.sort_unstable_by_key in
-    let items = items-with_items c.loop-operation.stays sort.new.self (sort.ensures.len ∙ ap length c.deref_mut.ensures.value) in
-    rw items (IsNonDecreasingBy-from_sort (λ t. t.begin) _ (sort.ensures.sorted (λ t. t.begin) (answers_always _ _ _ (λ f a r g h. search rules))))
+    let moved : IsPermutation c.loop-i.stays.items sort.new.self = rw c.deref_mut.ensures.value at sort.ensures.permutation in
+    let items = items-with_items c.loop-i.stays sort.new.self (sort.ensures.len ∙ ap length c.deref_mut.ensures.value) in
+    record {
+      kept = λ s e low high.
+          rw items (held_moved _ _ moved s e)
+          ∙ gathers_all c.loop-i.invariant c.loop-i-test.false s e low high
+          ∙ (λ i. confined c.args.kind c.args.timing.busy s e (c.operations-operation-items.ensures.exact i) (frames_with c.args.draft.slots.now (c.frames-frames.ensures.earliest i) (c.frames-frames.ensures.latest i)));
+      inside = rw items (inside_moved _ _ moved c.args.timing.steps c.loop-i.invariant.inside);
+      ordered = rw items (IsNonDecreasingBy-from_sort (λ t. t.begin) _ (sort.ensures.sorted (λ t. t.begin) (answers_always _ _ _ (λ f a r g h. search rules))));
+    }

@@ -1,13 +1,9 @@
-use Rattle.std.specs.Iterator.Adapters.{zip_first, zip_second}
-use Rattle.std.specs.Slice.Iter.{iter_rest}
-use Rattle.windows.specs.Windows.{frames, confined}
-use Rattle.windows.proofs.Gathering.{Gathers, framed}
+use Rattle.std.proofs.Common.{map}
+use Rattle.rules.specs.declared.frame.Frame.{Frame}
+use Rattle.windows.specs.Windows.{frames_with}
+use Rattle.windows.proofs.Gathering.{Gathers}
 use Rattle.windows.proofs.gather.gather.Given as goal
 
-abbrev pub invariant-loop-operation : goal.invariant-loop-operation
-invariant-loop-operation l =
-    let j = l.draft.job.now in
-    (goal.iterator-loop-operation).can_next l.operation-iterator
-    × (goal.iterator-loop-operation).is_finite l.operation-iterator
-    × Gathers l.kind l.timing.busy l.timing.steps (λ s e. confined l.kind l.timing.busy s e j.operations (frames j l.draft.slots.now))
-    (iter_rest (zip_first l.operation-iterator)) (framed (iter_rest l.placed) (iter_rest (zip_second l.operation-iterator))) l.stays.items
+abbrev pub invariant-loop-i : goal.invariant-loop-i
+invariant-loop-i l =
+    Gathers l.kind l.timing.busy l.timing.steps l.operation-items (frames_with l.draft.slots.now (map (λ (f : Frame). f.earliest) l.frames) (map (λ (f : Frame). f.latest) l.frames)) l.i l.stays.items
