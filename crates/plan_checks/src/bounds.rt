@@ -8,6 +8,8 @@ use plan::{Draft, Slot};
 use std::process::Abort;
 use std::test::Fail;
 
+// Counted plainly, here and below, so as not to lean on the code that is checked.
+
 // How many operations of a kind are busy within steps `first` to `last` alone: an operation with a slot starts there.
 fn confined(draft: Draft, kind: u8, busy: i32, first: i32, last: i32) -> usize {
     let job = draft.job;

@@ -7,7 +7,7 @@ use Rattle.std.proofs.lemmas.List.Sorted.{IsNonDecreasingBy-take}
 use Rattle.std.proofs.lemmas.List.Sums.{sum_by-append, sum_by_push}
 use Rattle.std.proofs.lemmas.Bool.Decides.{nat_tests}
 use Rattle.windows.specs.declared.stay.Stay.{Stay}
-use Rattle.windows.specs.Counts.{starting, Tallies, Inside, Ordered, Before, Front}
+use Rattle.windows.specs.Counts.{starting, Tallies, Inside, Sorted, Before, Front}
 use Rattle.windows.proofs.Counting.{none_where, held_split, sum_one_more}
 
 starting_append : (s e : ℕ) (xs ys : List Stay) → starting s e (xs ++ ys) ≡ starting s e xs + starting s e ys
@@ -27,8 +27,8 @@ before_all t ts inside = All-weaker (λ x. (x.begin ≤ t) × (x.end ≤ t)) (λ
 pub front_all : (s : ℕ) (ts : List Stay) → Front s ts ts
 front_all s ts = record { back = []; whole = sym (append-nil ts); later = tt }
 
-pub front_ordered : (xs ys : List Stay) → Ordered (xs ++ ys) → Ordered xs
-front_ordered xs ys ordered = rw (take_at xs ys (length xs) refl) at (IsNonDecreasingBy-take (λ t. t.begin) (length xs) (xs ++ ys) ordered)
+pub front_sorted : (xs ys : List Stay) → Sorted (xs ++ ys) → Sorted xs
+front_sorted xs ys sorted = rw (take_at xs ys (length xs) refl) at (IsNonDecreasingBy-take (λ t. t.begin) (length xs) (xs ++ ys) sorted)
 
 front_before : (s : ℕ) (xs ys : List Stay) → Before s (xs ++ ys) → Before s xs
 front_before s xs ys before = rw (take_at xs ys (length xs) refl) at (All-take (λ t. t.begin < s) (length xs) (xs ++ ys) before)
@@ -88,11 +88,11 @@ module _ {s : ℕ} {ts : List Stay} {was : List ℕ} {had : ℕ} {front : List S
     }
 
     -- where it does not begin at s, none does
-    pub taking_stops : Ordered ts → Before (s + 1) ts → x.begin ≢ s → Before s front
-    taking_stops ordered before other =
+    pub taking_stops : Sorted ts → Before (s + 1) ts → x.begin ≢ s → Before s front
+    taking_stops sorted before other =
         let low = front_before (s + 1) (rest ++ (x ∷ [])) taking.left.back (rw whole at before) in
         let here : x.begin < s + 1 = all-has (λ t. t.begin < s + 1) (rest ++ (x ∷ [])) x low (has_push rest x) in
-        let up = front_ordered (rest ++ (x ∷ [])) taking.left.back (rw whole at ordered) in
+        let up = front_sorted (rest ++ (x ∷ [])) taking.left.back (rw whole at sorted) in
         rw last (All-push (λ t. t.begin < s) rest x (All-from_get_or (λ t. t.begin < s) rest x (λ i low.
         let long = length_push rest x in
         let first = get_or_append_left rest (x ∷ []) x i low in

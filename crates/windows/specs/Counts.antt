@@ -19,8 +19,8 @@ abbrev pub starting : ℕ → ℕ → List Stay → ℕ
 starting s e ts = count_by (λ t. (t.begin == s) && nat_le t.end e) ts
 
 -- sorted by their begin
-abbrev pub Ordered : List Stay → Type 0
-Ordered ts = IsNonDecreasingBy (λ t. t.begin) ts
+abbrev pub Sorted : List Stay → Type 0
+Sorted ts = IsNonDecreasingBy (λ t. t.begin) ts
 
 -- all begin before s
 abbrev pub Before : ℕ → List Stay → Type 0

@@ -1,7 +1,7 @@
 //! One pass over the operations gathers the stays of those of a kind.
 ghost use Rattle.std.specs.Prelude.{◌≡◌, ◌<◌, length, map, pos, slice_index_or};
 ghost use Rattle.rules.specs.declared.frame.Frame.{Frame};
-ghost use Rattle.windows.specs.Counts.{Inside, Ordered, StandFor};
+ghost use Rattle.windows.specs.Counts.{Inside, Sorted, StandFor};
 ghost use Rattle.windows.specs.Windows.{frames_with, frames};
 
 use crate::stay::Stay;
@@ -29,12 +29,12 @@ fn frame(placed: &[Slot], frames: &[Frame], i: usize) -> Frame
 pub(crate) fn gather(draft: Draft, kind: u8, timing: Timing) -> ArrayVec<Stay, MOST_OPERATIONS>
     ensures kept { StandFor kind timing.busy timing.steps draft.entry.job.now.operations (frames draft.entry.job.now draft.entry.slots.now) result.items }
     ensures inside { Inside timing.steps result.items }
-    ensures ordered { Ordered result.items }
+    ensures sorted { Sorted result.items }
 {
     let frames = draft.job.frames();
     let mut stays = ArrayVec::new();
-    // by number, with the frame looked up where the kind is right: with three iterators side by side a floor took a sixth more
-    // instructions
+    // by number, with the frame looked up where the kind is right: with three iterators side by side a floor took a sixth
+    // to a fifth more instructions
     for (i, operation) in draft.job.operations().iter().enumerate() {
         if operation.kind != kind {
             continue;

@@ -89,6 +89,7 @@ impl Tables {
             .all(|kind| kind.restarts_within(latency))
     }
 
+    // steps and a latency, as `Edit::SetLimits` names them
     fn set_limits(&mut self, steps: u8, latency: u8) -> Result<(), Refusal>
         ensures { Became self.old (with_limits self.old steps latency) (told result) self.new }
     {

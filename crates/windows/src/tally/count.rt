@@ -1,11 +1,11 @@
 //! Counting stays.
 ghost use Rattle.std.specs.Prelude.{◌≡◌, ℕ, ◌+◌, ◌<◌, ◌≤◌, length, take, sum, slice_index, slice_set};
-ghost use Rattle.windows.specs.Counts.{starting, Ordered, Before, Front};
+ghost use Rattle.windows.specs.Counts.{starting, Sorted, Before, Front};
 
 use super::{STEP_ROWS, Tally};
 use crate::stay::Stay;
 
-// `Ordered` is asked of slices of the sorted stays: a struct of a slice and that fact would be made anew at each step.
+// `Sorted` is asked of slices of the sorted stays: a struct of a slice and that fact would be made anew at each step.
 impl Tally {
     // A tally of no stays.
     pub(crate) fn new() -> Self
@@ -31,7 +31,7 @@ impl Tally {
     // Counts the stays that begin at `step`, the last of `stays`, and answers those before them, which begin earlier.
     pub(crate) fn take_in<'a>(&mut self, stays: &'a [Stay], step: u8) -> &'a [Stay]
         requires few { self.old.all + length stays.now ≤ 255 }
-        requires ordered { Ordered stays.now }
+        requires sorted { Sorted stays.now }
         requires before { Before (step + 1) stays.now }
         ensures front { Front step stays.now result.now }
         ensures before { Before step result.now }

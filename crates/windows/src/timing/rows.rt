@@ -1,6 +1,6 @@
 //! The greatest floor of all windows: rows of windows that begin at the same step.
 ghost use Rattle.std.specs.Prelude.{◌≡◌, ◌+◌, ◌-◌, ◌≤◌, length, max, take, sum};
-ghost use Rattle.windows.specs.Counts.{held_floor, tallied_floor, Inside, Ordered};
+ghost use Rattle.windows.specs.Counts.{held_floor, tallied_floor, Inside, Sorted};
 ghost use Rattle.windows.specs.Windows.{greatest, over_windows};
 
 use super::Timing;
@@ -28,7 +28,7 @@ impl Timing {
     // better than one that begins a step later.
     pub(crate) fn greatest_floor(self, stays: &[Stay]) -> u16
         requires few { length stays.now ≤ 64 }
-        requires ordered { Ordered stays.now }
+        requires sorted { Sorted stays.now }
         requires inside { Inside self.steps stays.now }
         ensures { result ≡ over_windows self.steps (held_floor self.latency self.busy stays.now) }
     {

@@ -45,5 +45,5 @@ returns c =
           ∙ gathers_all c.loop-i.invariant c.loop-i-test.false s e low high
           ∙ (λ i. confined c.args.kind c.args.timing.busy s e (c.operations-operation-items.ensures.exact i) (frames_with c.args.draft.slots.now (c.frames-frames.ensures.earliest i) (c.frames-frames.ensures.latest i)));
       inside = rw items (inside_moved _ _ moved c.args.timing.steps c.loop-i.invariant.inside);
-      ordered = rw items (IsNonDecreasingBy-from_sort (λ t. t.begin) _ (sort.ensures.sorted (λ t. t.begin) (answers_always _ _ _ (λ f a r g h. search rules))));
+      sorted = rw items (IsNonDecreasingBy-from_sort (λ t. t.begin) _ (sort.ensures.sorted (λ t. t.begin) (answers_always _ _ _ (λ f a r g h. search rules))));
     }

@@ -10,5 +10,5 @@ loop-last-preserved c =
 
 pub returns-else-last-step : goal.returns-else-last-step
 returns-else-last-step c =
-    let before = taking_stops c.loop-last.invariant c.in-Some.last.now _ c.in-Some.ensures.cases.0 c.requires.ordered c.requires.before c.if-last-step.false in
+    let before = taking_stops c.loop-last.invariant c.in-Some.last.now _ c.in-Some.ensures.cases.0 c.requires.sorted c.requires.before c.if-last-step.false in
     record { front = c.loop-last.invariant.left; before = before; ends = taken c.loop-last.invariant before }

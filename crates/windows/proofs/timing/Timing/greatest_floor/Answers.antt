@@ -1,7 +1,7 @@
 use Rattle.std.proofs.Common.{◌+◌, ◌-◌, ◌≡◌, sym, ◌∙◌, arith}
 use Rattle.windows.specs.Counts.{Tallies}
 use Rattle.windows.proofs.Counting.{held_all, held_few, sum_all}
-use Rattle.windows.proofs.Order.{before_all, front_all, front_ordered, front_starting, front_fewer, front_more, front_none, tallied_more}
+use Rattle.windows.proofs.Order.{before_all, front_all, front_sorted, front_starting, front_fewer, front_more, front_none, tallied_more}
 use Rattle.windows.proofs.Rows.{done_none, done_skipped, done_raised}
 use Rattle.windows.proofs.timing.Timing.greatest_floor.Goals as goal
 use Rattle.windows.proofs.timing.Timing.greatest_floor.Goals.{then-earlier-rest, else-earlier-rest}
@@ -19,10 +19,10 @@ take_in-earlier-requires-clause-few c =
     let tally = c.loop-begin.tally in
     omega (arith, tally.added, sum_all (s + 1) tally.ends c.args.stays.now tally.whole c.loop-begin.invariant.done.tallied, held_few (s + 1) 64 c.args.stays.now, front_fewer s c.loop-begin.invariant.front)
 
-pub take_in-earlier-requires-clause-ordered : goal.take_in-earlier-requires-clause-ordered
-take_in-earlier-requires-clause-ordered c =
+pub take_in-earlier-requires-clause-sorted : goal.take_in-earlier-requires-clause-sorted
+take_in-earlier-requires-clause-sorted c =
     let front = c.loop-begin.invariant.front in
-    front_ordered _ front.back (rw front.whole at c.requires.ordered)
+    front_sorted _ front.back (rw front.whole at c.requires.sorted)
 
 pub raise_row-most-requires-clause-ended : goal.raise_row-most-requires-clause-ended
 raise_row-most-requires-clause-ended c =
