@@ -7,10 +7,10 @@ use Rattle.std.proofs.lemmas.Option.{none-some, slice_get_within, get_or_from_sl
 use Rattle.std.specs.Option.{ok_or}
 use Rattle.rules.specs.declared.frame.Frame.{Frame}
 use Rattle.rules.specs.declared.refusal.Refusal.{Refusal}
-use Rattle.rules.specs.Frames.{FramesOf, earliest_start, latest_start, holds, frame_of}
+use Rattle.rules.specs.Frames.{FramesOf, Framed, earliest_start, latest_start, holds, frame_of}
 use Rattle.rules.specs.Jobs.{Job, Valid, numbered}
 use Rattle.rules.proofs.Earliest.{earliests_length}
-use Rattle.rules.proofs.FramesRight.{earliest_small}
+use Rattle.rules.proofs.FramesRight.{earliest_small, frames_right}
 use Rattle.rules.proofs.Numbered.{nth_within, numbered_within}
 use Rattle.rules.proofs.Tests.{where_on, where_off}
 
@@ -23,6 +23,10 @@ absent : {X : Type 0} (xs : List X) (n : ℕ) → numbered xs n ≡ None → 1 �
 absent xs zero none some few = omega arith
 absent xs (suc i) none some few = let k = nth_within xs i few in none-some k.0 (sym none ∙ k.1)
 
+pub frame_held : (j : Job) (n : ℕ) (a z : ℤ) → 1 ≤ n → n ≤ length j.operations → a ≡ pos (earliest_start j n) → z ≡ latest_start j n → Ok (a, z) ≡ frame_of j n
+frame_held j n a z some held start end =
+    where_on (λ r. Ok (a, z) ≡ r) (holds j n) _ _ (and_from _ _ (le-leb 1 n some) (le-leb n (length j.operations) held)) (λ _. λ i. Ok (start i, end i))
+
 module _ (j : Job) (fs : List Frame) (kept : FramesOf j fs) where
   many : length fs ≡ length j.operations
   many = sym (length-map fs (λ (f : Frame). f.earliest)) ∙ ap length kept.earliest ∙ earliests_length j [] j.operations
@@ -32,6 +36,10 @@ module _ (j : Job) (fs : List Frame) (kept : FramesOf j fs) where
     where
       unheld : (1 ≤ n → n ≤ length fs → ⊥) → length fs ≡ length j.operations → holds j n ≡ false
       unheld without size = grind (arith, nat_tests)
+
+  -- each row is what a frame is to be
+  pub all_framed : Valid j → (n : ℕ) → 1 ≤ n → n ≤ length fs → Framed j n
+  all_framed valid n some few = frames_right j valid n some (omega (arith, many))
 
   -- row n of the frames
   module _ (n : ℕ) (f : Frame) (row : numbered fs n ≡ Some f) where
@@ -65,6 +73,4 @@ module _ (j : Job) (fs : List Frame) (kept : FramesOf j fs) where
         omega (arith, within, start_is, earliest_small j valid n n (omega arith) within.0 within.1)
 
     pub frame_told : (a z : ℤ) → a ≡ pos f.earliest → z ≡ f.latest → Ok (a, z) ≡ frame_of j n
-    frame_told a z start end =
-        where_on (λ r. Ok (a, z) ≡ r) (holds j n) _ _ (and_from _ _ (le-leb 1 n within.0) (le-leb n (length j.operations) within.1))
-        (λ _. λ i. Ok ((start ∙ ap pos (sym start_is)) i, (end ∙ sym end_is) i))
+    frame_told a z start end = frame_held j n a z within.0 within.1 (start ∙ ap pos (sym start_is)) (end ∙ sym end_is)

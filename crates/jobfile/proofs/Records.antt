@@ -1,6 +1,6 @@
 -- Taking the records of a file one by one, as the loader does.
-use Rattle.std.proofs.Common.{Option, ◌≡◌, ℕ, zero, suc, ◌+◌, ◌-◌, ◌*◌, ◌<◌, ◌≤◌, ◌⊎◌, true, cond, ◌&&◌, eqb, ltb, List, [], ◌∷◌, length, get_or, take, drop, Some, None, Ok, Err, Result, sym, refl, ap, ◌∙◌, subst, ap₂, arith, Bor}
-use Rattle.std.proofs.lemmas.List.{length-drop, take_all}
+use Rattle.std.proofs.Common.{Option, ◌≡◌, ℕ, zero, suc, ◌+◌, ◌-◌, ◌*◌, ◌<◌, ◌≤◌, ◌⊎◌, true, cond, ◌&&◌, eqb, ltb, List, [], ◌∷◌, ◌++◌, length, get_or, take, drop, Some, None, Ok, Err, Result, sym, refl, ap, ◌∙◌, subst, ap₂, arith, Bor}
+use Rattle.std.proofs.lemmas.List.{length-drop, take_all, take-append-drop}
 use Rattle.std.proofs.lemmas.Bool.{cond-true, cond-false, lt-ltb, le-ltb, eq-eqb, and_from}
 use Rattle.std.proofs.lemmas.Bool.Decides.{nat_tests}
 use Rattle.rules.specs.Files.{word, edit_of, with_record, with_records, loaded}
@@ -91,6 +91,12 @@ module _ (j : Job) (o : ℕ) where
   shorter [] s split = let z : ◌≡◌ {A = ℕ} 0 1 = cc in absurd (omega arith)
   shorter (high ∷ []) s split = let z : ◌≡◌ {A = ℕ} 0 1 = cc in absurd (omega arith)
   shorter (high ∷ (low ∷ rest)) s split = omega (arith, ap length split.2, length-drop (word high low) rest)
+
+-- behind the length, the bytes are the body and what follows it
+pub split_parts : (bytes : List ℕ) (s : Bor (List ℕ) × Bor (List ℕ)) → Split bytes (Some s) → drop 2 bytes ≡ s.0.now ++ s.1.now
+split_parts [] s split = absurd (none-some s (sym split))
+split_parts (high ∷ []) s split = absurd (none-some s (sym split))
+split_parts (high ∷ (low ∷ rest)) s split = sym (ap₂ ◌++◌ split.1 split.2 ∙ take-append-drop (word high low) rest)
 
 -- the first byte is no tag
 pub untagged : (body : List ℕ) → 1 ≤ length body → (get_or body 0 0 ≡ 0) ⊎ (4 < get_or body 0 0) → None ≡ edit_of body

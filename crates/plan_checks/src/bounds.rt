@@ -13,11 +13,12 @@ use std::test::Fail;
 // How many operations of a kind are busy within steps `first` to `last` alone: an operation with a slot starts there.
 fn confined(draft: Draft, kind: u8, busy: i32, first: i32, last: i32) -> usize {
     let job = draft.job;
-    let rows = job.operations().iter().zip(job.frames()).enumerate();
-    rows.filter(|(i, (operation, frame))| {
-        let (earliest, latest) = match draft.slots.get(*i) {
-            Some(slot) => (slot.start as i32, slot.start as i32),
-            None => (frame.earliest as i32, frame.latest as i32),
+    let rows = (1..=u8::MAX).zip(job.operations()).enumerate();
+    rows.filter(|(i, (number, operation))| {
+        let (earliest, latest) = match (draft.slots.get(*i), job.frame(*number)) {
+            (Some(slot), _) => (slot.start as i32, slot.start as i32),
+            (None, Ok((earliest, latest))) => (earliest as i32, latest as i32),
+            (None, Err(_)) => return false,
         };
         operation.kind == kind
             && earliest >= first

@@ -1,5 +1,6 @@
 pub mod Numbered
 pub mod Rows
+pub mod Validity
 pub mod Tests
 pub mod Figures
 pub mod Changing

@@ -1,7 +1,7 @@
 -- What stands at a place of a list, what has a number, and the parts of a list that a recursion comes to.
-use Rattle.std.proofs.Common.{◌≡◌, ℕ, zero, suc, ◌+◌, ◌<◌, ◌≤◌, ◌⊎◌, List, [], ◌∷◌, ◌++◌, length, Some, None, sym, refl, ap, ◌∙◌, inl, inr, le_of_suc-le-suc, not-suc-le-zero, arith}
+use Rattle.std.proofs.Common.{◌≡◌, ℕ, zero, suc, ◌+◌, ◌-◌, ◌<◌, ◌≤◌, ◌⊎◌, List, [], ◌∷◌, ◌++◌, length, get_or, Some, None, sym, refl, ap, ◌∙◌, inl, inr, le_of_suc-le-suc, not-suc-le-zero, arith}
 use Rattle.std.specs.List.{slice_get}
-use Rattle.std.proofs.lemmas.Option.{slice_get_past, none-some, same_Some, slice_get_within}
+use Rattle.std.proofs.lemmas.Option.{slice_get-get_or, slice_get_past, none-some, same_Some, slice_get_within}
 use Rattle.rules.specs.Jobs.{numbered}
 
 module _ {X : Type 0} where
@@ -16,6 +16,13 @@ module _ {X : Type 0} where
   nth_push [] y (suc i) x e = absurd (none-some x e)
   nth_push (z ∷ xs) y zero x e = inl e
   nth_push (z ∷ xs) y (suc i) x e = elim (nth_push xs y i x e) [ inl h ↦ inl h | inr h ↦ inr (ap suc h.0, h.1) ]
+
+  -- the row with a number, read from the list
+  pub numbered_read : (xs : List X) (n : ℕ) (d : X) → (n ≡ 0 → ⊥) → n ≤ length xs → Some (get_or xs (n - 1) d) ≡ numbered xs n
+  numbered_read xs zero d some few = absurd (some refl)
+  numbered_read xs (suc i) d some few =
+      let e : suc i - 1 ≡ i = omega arith in
+      ap (λ m. Some (get_or xs m d)) e ∙ sym (slice_get-get_or xs i d few)
 
   -- where there is no row with a number, and where there is one
   pub numbered_none : (xs : List X) (n : ℕ) → (n ≡ 0) ⊎ (length xs < n) → None ≡ numbered xs n

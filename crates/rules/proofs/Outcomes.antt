@@ -56,6 +56,9 @@ module _ (j : Job) (o : Operation) (room : length j.operations < 64) where
         (and_from _ _ left right) (λ _. (refl, ap (of_operations j) e))))
 
 module _ (j : Job) (t l : ℕ) where
+  pub limits_out : ((leb 1 t && leb t 64) && leb l 64) ≡ false → Became j (with_limits j t l) (Err 2) j
+  limits_out out = where_off (λ w. Became j w (Err 2) j) ((leb 1 t && leb t 64) && leb l 64) _ _ out (refl, refl)
+
   module _ (inside : ((leb 1 t && leb t 64) && leb l 64) ≡ true) where
     pub limits_too_short : all_restart l j.kinds ≡ false → Became j (with_limits j t l) (Err 13) j
     limits_too_short slow =
@@ -67,10 +70,21 @@ module _ (j : Job) (t l : ℕ) where
         where_on (λ w. Became j w (Ok tt) (limited j t l)) ((leb 1 t && leb t 64) && leb l 64) _ _ inside (λ _.
         where_on (λ w. Became j w (Ok tt) (limited j t l)) (all_restart l j.kinds) _ _ fast (λ _. (refl, refl)))
 
+-- what is left of the kinds, one kind on and at the end
+pub all_restart_past : (l : ℕ) (k : Kind) (ks : List Kind) → restarts l k ≡ true → all_restart l (k ∷ ks) ≡ all_restart l ks
+all_restart_past l k ks fast = rw fast refl
+
+pub all_restart_stopped : (l : ℕ) (k : Kind) (ks : List Kind) → restarts l k ≡ false → all_restart l (k ∷ ks) ≡ false
+all_restart_stopped l k ks slow = rw slow refl
+
 -- what a call was to make, by what it answered
 pub was_accepted : (old : Job) (wanted : Result Job ℕ) (left : Job) → Became old wanted (Ok tt) left → wanted ≡ Ok left
 was_accepted old (Ok j) left b = ap Ok (sym b.1)
 was_accepted old (Err why) left b = let z : ◌≡◌ {A = ℕ} 0 1 = cc b.0 in absurd (omega arith)
+
+pub was_refused : (old : Job) (wanted : Result Job ℕ) (left : Job) (n : ℕ) → Became old wanted (Err n) left → wanted ≡ Err n
+was_refused old (Ok j) left n b = let z : ◌≡◌ {A = ℕ} 0 1 = cc b.0 in absurd (omega arith)
+was_refused old (Err why) left n b = let e : why ≡ n = cc b.0 in ap Err e
 
 module _ {E : Type 0} (old : Job) where
   pub became_wanted : (wanted : Result Job E) (j left : Job) → Ok j ≡ wanted → left ≡ j → Became old wanted (Ok tt) left

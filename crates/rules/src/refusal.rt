@@ -2,39 +2,39 @@
 ghost use Rattle.std.specs.Prelude.{◌≡◌};
 ghost use Rattle.rules.specs.Refusals.{number};
 
-/// The reason of a refusal, with the number by which users know it.
+/// The reason of a refusal. Each is known to users by its number, which counts the cases from 1.
 #[derive(Clone, Copy, PartialEq, Eq, Debug)]
 pub enum Refusal {
-    /// A duration, busy time or cap outside its range.
-    FigureOutOfRange = 1,
-    /// Steps or latency outside their range.
-    LimitOutOfRange = 2,
-    /// An allowance of no trials, or of more than 65,535.
-    AllowanceOutOfRange = 3,
-    /// A library number that is not held.
-    UnknownLibraryUnit = 4,
-    /// A file that is empty, too long or of another version.
-    NotAJobFile = 5,
-    /// A record that the file ends within.
-    TornRecord = 6,
-    /// An unknown tag, or a length that is not its tag's.
-    UnknownRecord = 7,
-    /// A buffer too short for the printed plan.
-    ShortBuffer = 8,
-    /// A ninth kind.
-    TooManyKinds = 9,
-    /// A 65th operation.
-    TooManyOperations = 10,
-    /// An operation of a kind that is not held.
-    UnknownKind = 11,
-    /// An operand above the operations held.
-    UnknownOperand = 12,
-    /// A busy time above a latency that is not 0.
-    BusyBeyondLatency = 13,
-    /// A search with no operations.
-    NothingToSearch = 14,
-    /// A question about an operation that is not held.
-    UnknownOperation = 15,
+    /// 1: a duration, busy time or cap outside its range.
+    FigureOutOfRange,
+    /// 2: steps or latency outside their range.
+    LimitOutOfRange,
+    /// 3: an allowance of no trials, or of more than 65,535.
+    AllowanceOutOfRange,
+    /// 4: a library number that is not held.
+    UnknownLibraryUnit,
+    /// 5: a file that is empty, too long or of another version.
+    NotAJobFile,
+    /// 6: a record that the file ends within.
+    TornRecord,
+    /// 7: an unknown tag, or a length that is not its tag's.
+    UnknownRecord,
+    /// 8: a buffer too short for the printed plan.
+    ShortBuffer,
+    /// 9: a ninth kind.
+    TooManyKinds,
+    /// 10: a 65th operation.
+    TooManyOperations,
+    /// 11: an operation of a kind that is not held.
+    UnknownKind,
+    /// 12: an operand above the operations held.
+    UnknownOperand,
+    /// 13: a busy time above a latency that is not 0.
+    BusyBeyondLatency,
+    /// 14: a search with no operations.
+    NothingToSearch,
+    /// 15: a question about an operation that is not held.
+    UnknownOperation,
 }
 
 impl Refusal {
@@ -42,7 +42,7 @@ impl Refusal {
     pub fn number(self) -> u8
         ensures { result ≡ number self }
     {
-        self as u8
+        self as u8 + 1
     }
 }
 

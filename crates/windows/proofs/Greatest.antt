@@ -10,6 +10,20 @@ greatest_turn f s n most all more left some low taken =
     let last : s + (n - 1 + 1 - s) ≡ n = omega arith in
     omega (arith, ap (greatest f s) size, ap f last)
 
+-- the same of the number before n
+pub greatest_taken : (f : ℕ → ℕ) (s n most all : ℕ) → max most (greatest f s (n - s)) ≡ all → (more : ℕ) → s < n → more ≡ max most (f (n - 1)) → max more (greatest f s (n - 1 - s)) ≡ all
+greatest_taken f s n most all left more some taken =
+    let size : n - s ≡ suc (n - 1 - s) = omega arith in
+    let last : s + (n - 1 - s) ≡ n - 1 = omega arith in
+    omega (arith, ap (greatest f s) size, ap f last)
+
+-- and at the end it is all
+pub greatest_end : (f : ℕ → ℕ) (s n most all : ℕ) → max most (greatest f s (n - s)) ≡ all → n ≤ s → most ≡ all
+greatest_end f s n most all left end =
+    let none : n - s ≡ 0 = omega arith in
+    let empty : greatest f s (n - s) ≡ 0 = ap (greatest f s) none in
+    omega arith
+
 pub greatest_same : (f g : ℕ → ℕ) (s n : ℕ) → ((k : ℕ) → s ≤ k → k < s + n → f k ≡ g k) → greatest f s n ≡ greatest g s n
 greatest_same f g s zero same = refl
 greatest_same f g s (suc n) same =

@@ -1,7 +1,7 @@
 mod Rounding
 mod Greatest
 mod Counting
-mod Order
+mod Chains
 mod Framing
 mod Gathering
 mod Rows

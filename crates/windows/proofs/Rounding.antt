@@ -32,6 +32,11 @@ no_greater less work room wide few some more =
     let grows : rounded_up work room * room ≤ rounded_up work room * wide = mul-le-mul_left (rounded_up work room) more in
     enough (rounded_up work room) less wide (omega arith) (omega arith)
 
+pub no_larger : (work room : ℕ) → 1 ≤ room → rounded_up work room ≤ work
+no_larger work room some =
+    let more : work * 1 ≤ work * room = mul-le-mul_left work some in
+    enough work work room some (omega arith)
+
 -- what `div_ceil` answers
 pub rounded_up_is : (work room : ℕ) → 1 ≤ room → rounded_up work room ≡ work / room + min 1 (work % room)
 rounded_up_is work room some = grind (arith, div_ceil_times work room some, above (work / room + min 1 (work % room) - 1) work room some, enough (work / room + min 1 (work % room)) work room some)

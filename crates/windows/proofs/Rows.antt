@@ -7,7 +7,7 @@ use Rattle.windows.specs.declared.stay.Stay.{Stay}
 use Rattle.windows.specs.Counts.{held, starting, Tallies, held_floor, tallied_floor, Inside}
 use Rattle.windows.specs.Windows.{room, window_floor, greatest}
 use Rattle.windows.proofs.Counting.{held_split, held_wider, held_past}
-use Rattle.windows.proofs.Greatest.{greatest_turn, greatest_same, greatest_least, greatest_above}
+use Rattle.windows.proofs.Greatest.{greatest_turn, greatest_end, greatest_same, greatest_least, greatest_above}
 use Rattle.windows.proofs.Rounding.{enough, no_greater}
 
 module _ (l r : ℕ) where
@@ -76,7 +76,7 @@ module _ (l r t : ℕ) (ts : List Stay) where
         left = omega (arith, ap (greatest (row l r ts t) 1) all);
       }
 
-  module _ {s : ℕ} {ends : List ℕ} {most : ℕ} (done : Done s ends most) (some : 1 ≤ s) (low : s ≤ t) where
+  module _ {s : ℕ} {ends : List ℕ} {most : ℕ} (done : Done s ends most) (some : 1 ≤ s) where
     turn : (ends' : List ℕ) (most' : ℕ) → Tallies s ts ends' → most' ≡ max most (row l r ts t s) → Done (s - 1) ends' most'
     turn ends' most' tallied taken =
         let here : s - 1 + 1 ≡ s = omega arith in
@@ -87,10 +87,14 @@ module _ (l r t : ℕ) (ts : List Stay) where
         }
 
     -- no stay begins at s
-    pub done_skipped : Inside t ts → (ends' : List ℕ) → Tallies s ts ends' → ((e : ℕ) → starting s e ts ≡ 0) → Done (s - 1) ends' most
-    done_skipped inside ends' tallied none =
+    pub done_skipped : s ≤ t → Inside t ts → (ends' : List ℕ) → Tallies s ts ends' → ((e : ℕ) → starting s e ts ≡ 0) → Done (s - 1) ends' most
+    done_skipped low inside ends' tallied none =
         let later = row_later inside s low none in
         turn ends' most tallied (omega (arith, done.least))
+
+    -- the same, with the tally as it was
+    pub done_passed : s ≤ t → Inside t ts → ((e : ℕ) → starting s e ts ≡ 0) → Done (s - 1) ends most
+    done_passed low inside none = done_skipped low inside ends (λ e high. omega (arith, done.tallied e high, held_split s e ts, none e)) none
 
     -- the row at s is taken in
     pub done_raised : t ≤ 64 → (ends' : List ℕ) → Tallies s ts ends' → (most' : ℕ)
@@ -98,3 +102,7 @@ module _ (l r t : ℕ) (ts : List Stay) where
     done_raised few ends' tallied most' raised =
         turn ends' most' tallied
         (raised ∙ ap (max most) (greatest_same _ (held_floor l r ts s) s (t + 1 - s) (λ e low high. ap (window_floor l r (e + 1 - s)) (tallied e (omega arith)))))
+
+  -- all rows are done
+  pub done_all : (ends : List ℕ) (most : ℕ) → Done 0 ends most → most ≡ greatest (row l r ts t) 1 t
+  done_all ends most done = greatest_end (row l r ts t) 1 1 most _ done.left (omega arith)

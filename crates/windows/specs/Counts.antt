@@ -1,10 +1,15 @@
 -- Counts of the stays that a window holds.
-use Rattle.std.specs.Prelude.{◌≡◌, ℕ, ◌+◌, ◌-◌, ◌<◌, ◌≤◌, Bool, false, ◌&&◌, List, ◌++◌, take, Some, None, sum, count_by, Option, ◌==◌, nat_le}
+use Rattle.std.specs.Prelude.{◌≡◌, ℕ, ◌+◌, ◌-◌, ◌≤◌, Bool, false, ◌&&◌, List, take, Some, None, sum, count_by, Option, ◌==◌, nat_le}
 use Rattle.std.specs.List.{AllByRecursion}
-use Rattle.std.specs.List.Sorted.{IsNonDecreasingBy}
 use Rattle.rules.specs.declared.operation.Operation.{Operation}
 use Rattle.windows.specs.declared.stay.Stay.{Stay}
+use Rattle.windows.specs.declared.stays.Stays.{Stays}
+use Rattle.windows.specs.Chains.{stays_of}
 use Rattle.windows.specs.Windows.{Frame, kept_within, confined, window_floor}
+
+-- the stays, in the order in which they were added
+abbrev pub listed : Stays → List Stay
+listed stays = stays_of stays.linked.items
 
 -- a stay lies within steps s to e
 abbrev pub lies_within : ℕ → ℕ → Stay → Bool
@@ -17,20 +22,6 @@ held s e ts = count_by (lies_within s e) ts
 -- how many of those that lie within steps s to e begin at s
 abbrev pub starting : ℕ → ℕ → List Stay → ℕ
 starting s e ts = count_by (λ t. (t.begin == s) && nat_le t.end e) ts
-
--- sorted by their begin
-abbrev pub Sorted : List Stay → Type 0
-Sorted ts = IsNonDecreasingBy (λ t. t.begin) ts
-
--- all begin before s
-abbrev pub Before : ℕ → List Stay → Type 0
-Before s ts = AllByRecursion (λ t. t.begin < s) ts
-
--- `front` are the first of the stays, and the others begin at s or later
-pub record Front (s : ℕ) (ts front : List Stay) : Type 0 where
-  pub back : List Stay
-  pub whole : ts ≡ front ++ back
-  pub later : AllByRecursion (λ t. s ≤ t.begin) back
 
 -- `ends` has how many of the stays that begin at s or later end at each step: up to step e they add up to those within steps s to e
 abbrev pub Tallies : ℕ → List Stay → List ℕ → Type 0

@@ -4,6 +4,7 @@
 mod floor;
 mod gather;
 mod stay;
+mod stays;
 mod tally;
 mod timing;
 

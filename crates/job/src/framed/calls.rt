@@ -1,5 +1,5 @@
 //! The calls on a job.
-ghost use Rattle.std.specs.Prelude.{◌≡◌, OnOk, map};
+ghost use Rattle.std.specs.Prelude.{◌≡◌, ◌≤◌, ℕ, OnOk, length, map};
 ghost use Rattle.rules.specs.Changes.{RangesAreExact};
 ghost use Rattle.rules.specs.declared.frame.Frame.{Frame};
 ghost use Rattle.rules.specs.declared.edit.Edit.TheVariants.{AddKind, AddLibraryKind, AddOperation, SetLimits};
@@ -11,7 +11,8 @@ ghost use Rattle.rules.specs.Jobs.{fresh, Valid, numbered, duration_of};
 ghost use Rattle.rules.specs.Refusals.{told, told_file};
 
 use super::Job;
-use super::work_out::frames_of;
+use super::work_out::work_out;
+use arrayvec::ArrayVec;
 use jobfile::read::read_tables;
 use rules::by_number::numbered;
 use rules::edit::Edit;
@@ -21,11 +22,12 @@ use rules::operation::Operation;
 use rules::refusal::{FileRefusal, Refusal};
 use tables::tables::Tables;
 
-// `valid` stands with the four calls that tell the parts of the job: a model shows its callers nothing of its invariant.
+// `valid` stands with every call: a model shows its callers nothing of its invariant.
 impl Job {
     /// A job with no kinds, no operations, one step and latency 0.
     pub fn new() -> Self
         ensures fresh { result ≡ fresh }
+        ensures valid { Valid result }
         ensures ranges { RangesAreExact }
     {
         Job::of(Tables::new())
@@ -35,22 +37,25 @@ impl Job {
     fn of(tables: Tables) -> Self
         ensures { result ≡ tables }
     {
-        let frames = frames_of(&tables);
+        let mut frames = ArrayVec::new();
+        work_out(&tables, &mut frames);
         Job { tables, frames }
     }
 
     /// Makes one edit, or refuses it as the call for that edit does.
     pub fn edit(&mut self, edit: Edit) -> Result<(), Refusal>
-        ensures { CarriedOut self.old edit result self.new }
+        ensures exact { CarriedOut self.old edit result self.new }
+        ensures valid { Valid self.new }
     {
         self.tables.edit(edit)?;
-        self.frames = frames_of(&self.tables);
+        work_out(&self.tables, &mut self.frames);
         Ok(())
     }
 
     /// Adds a kind by its figures. Refused: 1 a figure out of range, 9 a ninth kind, 13 a busy time above a latency that is not 0.
     pub fn add_kind(&mut self, figures: Figures) -> Result<(), Refusal>
-        ensures { CarriedOut self.old (AddKind figures) result self.new }
+        ensures exact { CarriedOut self.old (AddKind figures) result self.new }
+        ensures valid { Valid self.new }
     {
         self.edit(Edit::AddKind(figures))
     }
@@ -59,14 +64,16 @@ impl Job {
     /// range, 9 a ninth kind, 13 a busy time above a latency that is not 0.
     // a number and a cap, as `Edit::AddLibraryKind` names them
     pub fn add_library_kind(&mut self, number: u8, cap: u8) -> Result<(), Refusal>
-        ensures { CarriedOut self.old (AddLibraryKind number cap) result self.new }
+        ensures exact { CarriedOut self.old (AddLibraryKind number cap) result self.new }
+        ensures valid { Valid self.new }
     {
         self.edit(Edit::AddLibraryKind { number, cap })
     }
 
     /// Adds an operation. Refused: 10 a 65th operation, 11 a kind that is not held, 12 an operand above the operations held.
     pub fn add_operation(&mut self, operation: Operation) -> Result<(), Refusal>
-        ensures { CarriedOut self.old (AddOperation operation) result self.new }
+        ensures exact { CarriedOut self.old (AddOperation operation) result self.new }
+        ensures valid { Valid self.new }
     {
         self.edit(Edit::AddOperation(operation))
     }
@@ -75,7 +82,8 @@ impl Job {
     /// that is not 0.
     // steps and a latency, as `Edit::SetLimits` names them
     pub fn set_limits(&mut self, steps: u8, latency: u8) -> Result<(), Refusal>
-        ensures { CarriedOut self.old (SetLimits steps latency) result self.new }
+        ensures exact { CarriedOut self.old (SetLimits steps latency) result self.new }
+        ensures valid { Valid self.new }
     {
         self.edit(Edit::SetLimits { steps, latency })
     }
@@ -85,9 +93,12 @@ impl Job {
     /// refused with.
     pub fn load(&mut self, file: &[u8]) -> Result<(), FileRefusal>
         ensures exact { Became self.old (loaded file.now) (told_file result) self.new }
+        ensures valid { Valid self.new }
         ensures read { Loads file.now (loaded file.now) }
         ensures stands_for { FilesStandForEdits }
     {
+        // for the ranges alone, which come with the parts
+        let _ = self.steps();
         let tables = read_tables(file)?;
         *self = Job::of(tables);
         Ok(())
@@ -99,9 +110,8 @@ impl Job {
     pub fn frame(&self, number: u8) -> Result<(i16, i16), Refusal>
         ensures exact { told result ≡ frame_of self.now number }
         ensures framed { OnOk result (Framed self.now number) }
+        ensures valid { Valid self.now }
     {
-        // for the ranges alone, which come with the rows
-        let _ = self.operations();
         let frame = numbered(self.frames(), number).ok_or(Refusal::UnknownOperation)?;
         Ok((frame.earliest as i16, frame.latest))
     }
@@ -116,7 +126,8 @@ impl Job {
 
     /// The kind with this number, from 1.
     pub fn kind(&self, number: u8) -> Option<Kind>
-        ensures { result ≡ numbered self.now.kinds number }
+        ensures exact { result ≡ numbered self.now.kinds number }
+        ensures valid { Valid self.now }
     {
         self.tables.kind(number)
     }
@@ -124,7 +135,8 @@ impl Job {
     /// The duration of an operation, 0 if its kind is not held.
     // 0 and no `Option`: an operation that is held has its kind, so callers would only put the 0 back.
     pub fn duration(&self, operation: Operation) -> u8
-        ensures { result ≡ duration_of self.now operation }
+        ensures exact { result ≡ duration_of self.now operation }
+        ensures valid { Valid self.now }
     {
         self.tables.duration(operation)
     }
@@ -141,7 +153,11 @@ impl Job {
     pub fn frames(&self) -> &[Frame]
         ensures earliest { map (λ (f : Frame). f.earliest) result.now ≡ earliests self.now }
         ensures latest { map (λ (f : Frame). f.latest) result.now ≡ latests self.now }
+        ensures framed { (n : ℕ) → 1 ≤ n → n ≤ length result.now → Framed self.now n }
+        ensures valid { Valid self.now }
     {
+        // for the ranges alone, which come with the parts
+        let _ = self.steps();
         self.frames.as_slice()
     }
 

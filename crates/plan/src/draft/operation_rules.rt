@@ -34,14 +34,20 @@ impl Draft<'_> {
     fn stands_apart(self, number: u8, placement: Placement) -> bool
         ensures { Decides result (Apart self.entry.job.now self.entry.slots.now number placement.operation placement.slot) }
     {
-        let earlier = (number as usize).saturating_sub(1);
-        let placed = self.job.operations().iter().zip(self.slots);
-        placed.take(earlier).all(|(operation, slot)| {
+        let operations = self.job.operations();
+        // cut to one length, so that a turn tests for one end alone
+        let earlier = (number as usize)
+            .saturating_sub(1)
+            .min(operations.len())
+            .min(self.slots.len());
+        let mut placed = operations[..earlier].iter().zip(&self.slots[..earlier]);
+        placed.all(|(operation, slot)| {
             let before = Placement {
                 operation: *operation,
                 slot: *slot,
             };
-            !clash(self.job, before, placement)
+            // the units first: where they differ, no placement is put together
+            slot.unit != placement.slot.unit || !clash(self.job, before, placement)
         })
     }
 

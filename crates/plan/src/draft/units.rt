@@ -10,13 +10,16 @@ impl Draft<'_> {
     pub fn units_of(self, kind: u8) -> u8
         ensures { result ≡ units self.entry.job.now self.entry.slots.now kind }
     {
-        self.job
-            .operations()
-            .iter()
-            .zip(self.slots)
-            .filter(|(operation, _)| operation.kind == kind)
-            .map(|(_, slot)| slot.unit)
-            .max()
-            .unwrap_or(0)
+        let operations = self.job.operations();
+        // cut to one length, so that a turn tests for one end alone
+        let many = operations.len().min(self.slots.len());
+        let placed = operations[..many].iter().zip(&self.slots[..many]);
+        placed.fold(0, |highest: u8, (operation, slot)| {
+            if operation.kind == kind {
+                highest.max(slot.unit)
+            } else {
+                highest
+            }
+        })
     }
 }

@@ -1,7 +1,7 @@
 //! Editing the tables. Each edit tests in a fixed order, and a refused one leaves the tables as they were.
 ghost use Rattle.std.specs.Prelude.{◌≡◌, ◌&&◌, length, Ok, Err, nat_le};
 ghost use Rattle.rules.specs.Edits.{with_kind, with_operation, with_limits, all_restart, Became, CarriedOut};
-ghost use Rattle.rules.specs.Jobs.{fresh};
+ghost use Rattle.rules.specs.Jobs.{fresh, Valid};
 ghost use Rattle.rules.specs.Refusals.{told};
 
 use super::{LONGEST_LATENCY, MOST_STEPS, Tables};
@@ -22,7 +22,8 @@ fn in_range(steps: u8, latency: u8) -> bool
 impl Tables {
     /// No kinds, no operations, one step, latency 0.
     pub fn new() -> Self
-        ensures { result ≡ fresh }
+        ensures fresh { result ≡ fresh }
+        ensures valid { Valid result }
     {
         Tables {
             kinds: ArrayVec::new(),
@@ -104,8 +105,7 @@ impl Tables {
         Ok(())
     }
 
-    /// Makes one edit, or refuses it and leaves the tables as they were.
-    pub fn edit(&mut self, edit: Edit) -> Result<(), Refusal>
+    fn carry_out(&mut self, edit: Edit) -> Result<(), Refusal>
         ensures { CarriedOut self.old edit result self.new }
     {
         match edit {
@@ -114,5 +114,16 @@ impl Tables {
             Edit::AddOperation(operation) => self.add_operation(operation),
             Edit::SetLimits { steps, latency } => self.set_limits(steps, latency),
         }
+    }
+
+    /// Makes one edit, or refuses it and leaves the tables as they were.
+    pub fn edit(&mut self, edit: Edit) -> Result<(), Refusal>
+        ensures exact { CarriedOut self.old edit result self.new }
+        ensures valid { Valid self.new }
+    {
+        let answer = self.carry_out(edit);
+        // for the ranges alone, which come with the parts
+        let _ = self.steps();
+        answer
     }
 }

@@ -1,6 +1,7 @@
 //! Working out the frames: the earliest starts from the first operation on, the latest from the last back.
 ghost use Rattle.std.specs.Prelude.{◌≡◌, ◌+◌, ◌<◌, ◌∷◌, length};
 ghost use Rattle.rules.specs.Frames.{readable, earliests, latests, latests_from};
+ghost use Rattle.rules.specs.Jobs.{Valid};
 
 use super::{MOST_OPERATIONS, Tables};
 use arrayvec::ArrayVec;
@@ -17,7 +18,8 @@ fn readable(ready: &[u16], operand: u8) -> u16
 impl Tables {
     /// The earliest start of each operation, in the order of their numbers.
     pub fn earliest_starts(&self) -> ArrayVec<u16, MOST_OPERATIONS>
-        ensures { result.items ≡ earliests self.now }
+        ensures exact { result.items ≡ earliests self.now }
+        ensures valid { Valid self.now }
     {
         let mut starts = ArrayVec::new();
         // beside the starts, since it is asked for here alone
@@ -46,7 +48,9 @@ impl Tables {
     {
         let duration = self.duration(operation) as i16;
         let mut latest = self.steps as i16 - duration + 1;
-        for (user, start) in later.iter().zip(starts) {
+        // cut to one length, so that a turn tests for one end alone
+        let users = &later[..starts.len()];
+        for (user, start) in users.iter().zip(starts) {
             if user.left == number || user.right == number {
                 latest = latest.min(*start - duration);
             }
@@ -56,7 +60,8 @@ impl Tables {
 
     /// The latest start of each operation, in the order of their numbers.
     pub fn latest_starts(&self) -> ArrayVec<i16, MOST_OPERATIONS>
-        ensures { result.items ≡ latests self.now }
+        ensures exact { result.items ≡ latests self.now }
+        ensures valid { Valid self.now }
     {
         let operations = self.operations();
         let mut starts = ArrayVec::new();

@@ -7,7 +7,7 @@ use rules::by_number::numbered;
 use rules::kind::Kind;
 use rules::operation::Operation;
 
-// `valid` stands with the four calls that tell the parts of the job: a model shows its callers nothing of its invariant.
+// `valid` stands with every call: a model shows its callers nothing of its invariant.
 impl Tables {
     /// The kinds, in the order of their numbers.
     pub fn kinds(&self) -> &[Kind]
@@ -43,7 +43,8 @@ impl Tables {
 
     /// The kind with this number, from 1.
     pub fn kind(&self, number: u8) -> Option<Kind>
-        ensures { result ≡ numbered self.now.kinds number }
+        ensures exact { result ≡ numbered self.now.kinds number }
+        ensures valid { Valid self.now }
     {
         numbered(self.kinds(), number)
     }
@@ -51,7 +52,8 @@ impl Tables {
     /// The duration of an operation, 0 if its kind is not held.
     // 0 and no `Option`: an operation that is held has its kind, so callers would only put the 0 back.
     pub fn duration(&self, operation: Operation) -> u8
-        ensures { result ≡ duration_of self.now operation }
+        ensures exact { result ≡ duration_of self.now operation }
+        ensures valid { Valid self.now }
     {
         self.kind(operation.kind).map_or(0, |kind| kind.duration)
     }

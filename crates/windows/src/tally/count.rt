@@ -1,11 +1,10 @@
 //! Counting stays.
-ghost use Rattle.std.specs.Prelude.{◌≡◌, ℕ, ◌+◌, ◌<◌, ◌≤◌, length, take, sum, slice_index, slice_set};
-ghost use Rattle.windows.specs.Counts.{starting, Sorted, Before, Front};
+ghost use Rattle.std.specs.Prelude.{◌≡◌, ◌+◌, ◌<◌, ◌≤◌, slice_index, slice_set};
+ghost use Rattle.windows.specs.Counts.{listed, Tallies};
 
 use super::{STEP_ROWS, Tally};
-use crate::stay::Stay;
+use crate::stays::Stays;
 
-// `Sorted` is asked of slices of the sorted stays: a struct of a slice and that fact would be made anew at each step.
 impl Tally {
     // A tally of no stays.
     pub(crate) fn new() -> Self
@@ -28,23 +27,19 @@ impl Tally {
         self.all += 1;
     }
 
-    // Counts the stays that begin at `step`, the last of `stays`, and answers those before them, which begin earlier.
-    pub(crate) fn take_in<'a>(&mut self, stays: &'a [Stay], step: u8) -> &'a [Stay]
-        requires few { self.old.all + length stays.now ≤ 255 }
-        requires sorted { Sorted stays.now }
-        requires before { Before (step + 1) stays.now }
-        ensures front { Front step stays.now result.now }
-        ensures before { Before step result.now }
-        ensures ends { (e : ℕ) → e ≤ 64 → sum (take (e + 1) self.new.ends) ≡ sum (take (e + 1) self.old.ends) + starting step e stays.now }
+    // Counts the stays that begin at `step` too, where those that begin later are counted.
+    pub(crate) fn take_in(&mut self, stays: &Stays, step: u8)
+        requires range { step ≤ 64 }
+        requires later { Tallies (step + 1) (listed stays.now) self.old.ends }
+        ensures { Tallies step (listed stays.now) self.new.ends }
     {
-        // from the back, one by one: each is counted, so that there is nothing to search
-        let mut rest = stays;
-        while let Some((last, before)) = rest.split_last()
-            && last.begin == step
-        {
-            self.add(last.end);
-            rest = before;
+        // from the last back, each by its link: there is nothing to search, and nothing to sort
+        let linked = stays.linked.as_slice();
+        let mut next = stays.last[step as usize];
+        while let Some(index) = next {
+            let found = linked[index as usize];
+            self.add(found.stay.end);
+            next = found.before;
         }
-        rest
     }
 }

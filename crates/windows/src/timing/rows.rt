@@ -1,10 +1,10 @@
 //! The greatest floor of all windows: rows of windows that begin at the same step.
-ghost use Rattle.std.specs.Prelude.{◌≡◌, ◌+◌, ◌-◌, ◌≤◌, length, max, take, sum};
-ghost use Rattle.windows.specs.Counts.{held_floor, tallied_floor, Inside, Sorted};
+ghost use Rattle.std.specs.Prelude.{◌≡◌, ◌+◌, ◌-◌, ◌≤◌, max, take, sum};
+ghost use Rattle.windows.specs.Counts.{listed, held_floor, tallied_floor, Inside};
 ghost use Rattle.windows.specs.Windows.{greatest, over_windows};
 
 use super::Timing;
-use crate::stay::Stay;
+use crate::stays::Stays;
 use crate::tally::Tally;
 
 impl Timing {
@@ -24,24 +24,20 @@ impl Timing {
         most
     }
 
-    // The greatest floor of all windows, from stays that are sorted by their begin. A window that begins where no stay does is no
-    // better than one that begins a step later.
-    pub(crate) fn greatest_floor(self, stays: &[Stay]) -> u16
-        requires few { length stays.now ≤ 64 }
-        requires sorted { Sorted stays.now }
-        requires inside { Inside self.steps stays.now }
-        ensures { result ≡ over_windows self.steps (held_floor self.latency self.busy stays.now) }
+    // The greatest floor of all windows. One that begins where no stay does is no better than one that begins a step later.
+    pub(crate) fn greatest_floor(self, stays: &Stays) -> u16
+        requires { Inside self.steps (listed stays.now) }
+        ensures { result ≡ over_windows self.steps (held_floor self.latency self.busy (listed stays.now)) }
     {
         let mut tally = Tally::new();
         let mut most = 0;
-        let mut rest = stays;
         // by step, which is no index: the stays that begin at it are taken in
         for begin in (1..=self.steps).rev() {
-            let earlier = tally.take_in(rest, begin);
-            if earlier.len() < rest.len() {
-                most = self.raise_row(most, begin, &tally);
+            if stays.last[begin as usize].is_none() {
+                continue;
             }
-            rest = earlier;
+            tally.take_in(stays, begin);
+            most = self.raise_row(most, begin, &tally);
         }
         most
     }

@@ -1,16 +1,21 @@
-use Rattle.std.proofs.Common.{◌≡◌, true, eqb, length, get_or, pos, refl, ap, ◌∙◌, rules, arith}
-use Rattle.std.specs.List.Sorted.{IsPermutation}
-use Rattle.std.proofs.lemmas.List.Sorted.{IsNonDecreasingBy-from_sort, answers_always}
-use Rattle.arrayvec.proofs.ArrayVecLemmas.{items-with_items}
+use Rattle.std.proofs.Common.{◌≡◌, true, eqb, length, get_or, pos, refl, ap, ◌∙◌, arith}
 use Rattle.std.proofs.lemmas.Bool.Decides.{nat_tests}
 use Rattle.std.proofs.lemmas.List.{length-map}
 use Rattle.rules.specs.declared.frame.Frame.{Frame}
 use Rattle.rules.proofs.Durations.{no_operation}
-use Rattle.windows.specs.Windows.{frames_with, confined}
+use Rattle.windows.specs.Counts.{listed}
+use Rattle.windows.specs.Windows.{frames_with, confined, of_kind}
 use Rattle.windows.proofs.Framing.{frames_whole}
-use Rattle.windows.proofs.Gathering.{gathers_other, gathers_none_of, gathers_stay, gathers_all, held_moved, inside_moved}
+use Rattle.windows.proofs.Gathering.{gathers_none, gathers_other, gathers_none_of, gathers_stay, all_counted, gathers_all}
 use Rattle.windows.proofs.gather.gather.Goals as goal
 use Rattle.windows.proofs.gather.gather.Goals.{in-Some, in_default}
+
+pub loop-i-init : goal.loop-i-init
+loop-i-init c = gathers_none _ _ _ _ _ (listed c.new-stays.result) c.new-stays.ensures
+
+pub overflow_add-operations : goal.overflow_add-operations
+overflow_add-operations c =
+    omega (arith, ap length c.operations-operation-items.ensures.exact, c.operations-operation-items.ensures.valid.few_operations, c.loop-i.invariant.few)
 
 pub loop-i-preserved-then-operation-kind : goal.loop-i-preserved-then-operation-kind
 loop-i-preserved-then-operation-kind c =
@@ -28,7 +33,7 @@ loop-i-preserved c =
     let is : eqb (get_or c.operations-operation-items.result.now c.loop-i.i no_operation).kind c.args.kind ≡ true = grind (arith, nat_tests) in
     elim c.match-of.branch [
       | in-Some w ↦
-          rw (ap (λ v. v.items) w.stays-is ∙ w.push.ensures.items)
+          rw (ap listed w.stays-is ∙ w.push.ensures)
           (gathers_stay c.loop-i.invariant c.loop-i-test.true whole.2 no_operation _ (0, pos 0) c.frame.ensures is w.in-Some.stay w.in-Some.ensures)
       | in_default w ↦
           rw w.stays-is (gathers_none_of c.loop-i.invariant c.loop-i-test.true whole.2 no_operation _ (0, pos 0) c.frame.ensures is w.in_default.ensures)
@@ -36,14 +41,10 @@ loop-i-preserved c =
 
 pub returns : goal.returns
 returns c =
-    let sort = c.sort_unstable_by_key in
-    let moved : IsPermutation c.loop-i.stays.items sort.new.self = rw c.deref_mut.ensures.value at sort.ensures.permutation in
-    let items = items-with_items c.loop-i.stays sort.new.self (sort.ensures.len ∙ ap length c.deref_mut.ensures.value) in
     record {
       kept = λ s e low high.
-          rw items (held_moved _ _ moved s e)
-          ∙ gathers_all c.loop-i.invariant c.loop-i-test.false s e low high
+          gathers_all c.loop-i.invariant c.loop-i-test.false s e low high
           ∙ (λ i. confined c.args.kind c.args.timing.busy s e (c.operations-operation-items.ensures.exact i) (frames_with c.args.draft.slots.now (c.frames-frames.ensures.earliest i) (c.frames-frames.ensures.latest i)));
-      inside = rw items (inside_moved _ _ moved c.args.timing.steps c.loop-i.invariant.inside);
-      sorted = rw items (IsNonDecreasingBy-from_sort (λ t. t.begin) _ (sort.ensures.sorted (λ t. t.begin) (answers_always _ _ _ (λ f a r g h. search rules))));
+      inside = c.loop-i.invariant.inside;
+      operations = all_counted c.loop-i.invariant c.loop-i-test.false ∙ ap (of_kind c.args.kind) c.operations-operation-items.ensures.exact;
     }

@@ -17,13 +17,13 @@ returns-in_err-frame-clause-exact c =
 pub overflow_cast-result : goal.overflow_cast-result
 overflow_cast-result c =
     let kept : FramesOf c.args.self.now c.frames.result.now = record { earliest = c.frames.ensures.earliest; latest = c.frames.ensures.latest } in
-    omega (arith, start_small c.args.self.now c.frames.result.now kept c.args.number c.in_ok-frame.frame (sym c.numbered.ensures ∙ c.in_ok-frame.ensures.ok_part) c.operations.ensures.valid)
+    omega (arith, start_small c.args.self.now c.frames.result.now kept c.args.number c.in_ok-frame.frame (sym c.numbered.ensures ∙ c.in_ok-frame.ensures.ok_part) c.frames.ensures.valid)
 
 pub returns-clause-exact : goal.returns-clause-exact
 returns-clause-exact c =
     let kept : FramesOf c.args.self.now c.frames.result.now = record { earliest = c.frames.ensures.earliest; latest = c.frames.ensures.latest } in
     let row : numbered c.frames.result.now c.args.number ≡ Some c.in_ok-frame.frame = sym c.numbered.ensures ∙ c.in_ok-frame.ensures.ok_part in
-    let small = start_small c.args.self.now c.frames.result.now kept c.args.number c.in_ok-frame.frame row c.operations.ensures.valid in
+    let small = start_small c.args.self.now c.frames.result.now kept c.args.number c.in_ok-frame.frame row c.frames.ensures.valid in
     let fits : SFits w16 c.in_ok-frame.frame.latest = search rules in
     frame_told c.args.self.now c.frames.result.now kept c.args.number c.in_ok-frame.frame row _ _ (to_z_pos w16 _ (omega (arith, small))) (to_z-of_z w16 _ fits)
 
@@ -31,4 +31,4 @@ pub returns-clause-framed : goal.returns-clause-framed
 returns-clause-framed c =
     let kept : FramesOf c.args.self.now c.frames.result.now = record { earliest = c.frames.ensures.earliest; latest = c.frames.ensures.latest } in
     let w = within c.args.self.now c.frames.result.now kept c.args.number c.in_ok-frame.frame (sym c.numbered.ensures ∙ c.in_ok-frame.ensures.ok_part) in
-    frames_right c.args.self.now c.operations.ensures.valid c.args.number w.0 w.1
+    frames_right c.args.self.now c.frames.ensures.valid c.args.number w.0 w.1

@@ -7,10 +7,17 @@ use Rattle.std.specs.Slice.Iter.{iter_rest}
 use Rattle.std.proofs.lemmas.Int.{ints}
 use Rattle.rules.specs.Frames.{before_users, last_start, latests_from}
 use Rattle.rules.specs.Jobs.{duration_of}
+use Rattle.std.proofs.lemmas.List.{take_all, length-take}
 use Rattle.rules.proofs.Durations.{duration_short}
+use Rattle.rules.proofs.Latest.{latests_length}
 use Rattle.tables.proofs.LatestLoop.{Within, within_lower, latests_within, users_more, users_done, limit_used}
 use Rattle.tables.proofs.tables.Tables.latest_start.Goals as goal
 use Rattle.tables.proofs.tables.Tables.latest_start.Goals.{then-user-number-via-then-user-number, then-user-number-via-else-user-number+then-user-number-2}
+
+pub slice_bounds-users-end : goal.slice_bounds-users-end
+slice_bounds-users-end c =
+    let many = ap length c.requires.known ∙ latests_length c.args.self.now (c.args.number + 1) c.args.later.now in
+    omega (arith, many, length-take (length c.args.starts.now) c.args.later.now)
 
 pub loop-user-init : goal.loop-user-init
 loop-user-init c =
@@ -18,14 +25,15 @@ loop-user-init c =
     let n = c.args.number in
     let d = duration_of j c.args.operation in
     let it = c.into_iter-user-iterator.result in
-    let first : iter_rest (zip_first it) ≡ c.args.later.now = ap (λ i. iter_rest (zip_first i)) c.into_iter-user-iterator.ensures.into_iter_gives ∙ ap iter_rest c.zip-user-items.ensures.first ∙ c.iter.ensures.rest in
+    let many : length c.args.starts.now ≡ length c.args.later.now = ap length c.requires.known ∙ latests_length j (n + 1) c.args.later.now in
+    let first : iter_rest (zip_first it) ≡ c.args.later.now = ap (λ i. iter_rest (zip_first i)) c.into_iter-user-iterator.ensures.into_iter_gives ∙ ap iter_rest c.zip-user-items.ensures.first ∙ c.iter.ensures.rest ∙ take_all (length c.args.starts.now) c.args.later.now (omega (arith, many)) in
     let second : iter_rest (zip_second it) ≡ c.args.starts.now = ap (λ i. iter_rest (zip_second i)) c.into_iter-user-iterator.ensures.into_iter_gives ∙ c.zip-user-items.ensures.second.0 in
     let steps : c.self.inside.steps ≡ j.steps = ap (λ x. x.steps) c.self.view_is in
     let low = within_lower (8 * length c.args.later.now) 512 (latests_from j (n + 1) c.args.later.now) (omega (arith, c.requires.few)) (latests_within j (omega (arith, steps, c.self.invariant.some_steps)) (omega (arith, steps, c.self.invariant.few_steps)) (n + 1) c.args.later.now) in (
       (tt, tt),
       tt,
       subst (Within 512) (sym (second ∙ c.requires.known)) low,
-      ap (λ z. before_users n d z (iter_rest (zip_first it)) (iter_rest (zip_second it))) (omega (arith, ints, steps, c.self.invariant.few_steps, c.duration-duration.ensures, duration_short j c.args.operation))
+      ap (λ z. before_users n d z (iter_rest (zip_first it)) (iter_rest (zip_second it))) (omega (arith, ints, steps, c.self.invariant.few_steps, c.duration-duration.ensures.exact, duration_short j c.args.operation))
           ∙ ap₂ (before_users n d (last_start j d)) first second,
     )
 
@@ -42,7 +50,7 @@ loop-user-preserved-in-loop-user c =
     let steps = c.in-Some.ensures.steps in
     let within : Within 512 (z ∷ iter_rest (zip_second c.next.new.self)) = subst (Within 512) steps.1 c.loop-user.invariant.2 in
     let short = duration_short c.args.self.now c.args.operation in
-    let less : to_z w16 (of_z w16 (to_z w16 (of_z w16 z) -ℤ to_z w16 c.duration-duration.result)) ≡ z -ℤ pos d = omega (arith, ints, within.0, within.1, short, c.duration-duration.ensures) in
+    let less : to_z w16 (of_z w16 (to_z w16 (of_z w16 z) -ℤ to_z w16 c.duration-duration.result)) ≡ z -ℤ pos d = omega (arith, ints, within.0, within.1, short, c.duration-duration.ensures.exact) in
     let is : to_z w16 (of_z w16 c.min-latest.result) ≡ int_min (to_z w16 c.loop-user.latest-bits) (z -ℤ pos d) =
     to_z-of_z w16 _ (search rules) ∙ c.min-latest.ensures.value ∙ ap (int_min (to_z w16 c.loop-user.latest-bits)) less in (
       (tt, tt),

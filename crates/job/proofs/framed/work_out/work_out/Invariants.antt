@@ -1,7 +1,7 @@
 use Rattle.std.specs.Iterator.Adapters.{zip_first, zip_second}
 use Rattle.std.specs.Slice.Iter.{iter_rest}
 use Rattle.job.proofs.Zipping.{Zipped}
-use Rattle.job.proofs.framed.work_out.frames_of.Given as goal
+use Rattle.job.proofs.framed.work_out.work_out.Given as goal
 
 abbrev pub invariant-loop-earliest : goal.invariant-loop-earliest
 invariant-loop-earliest l =
