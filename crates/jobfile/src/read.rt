@@ -32,7 +32,7 @@ pub fn read_tables(file: &[u8]) -> Result<Tables, FileRefusal>
         let offset = file.len() - rest.len();
         rest = take_record(&mut tables, rest).map_err(|reason| FileRefusal { reason, offset })?;
     }
-    // for the ranges alone, which come with the parts
+    // for the ranges alone
     let _ = tables.steps();
     Ok(tables)
 }

@@ -1,5 +1,5 @@
 -- The highest unit, one operation on, and of the operations and their slots in one list.
-use Rattle.std.proofs.Common.{◌≡◌, ℕ, ◌+◌, ◌<◌, ◌≤◌, min, max, cond, ◌==◌, Bool, true, false, ◌⊎◌, List, [], ◌∷◌, length, get_or, take, drop, fold, filter, refl, ap, ◌∙◌, ap₂, ⊎_elim, arith}
+use Rattle.std.proofs.Common.{◌≡◌, ℕ, ◌+◌, ◌<◌, ◌≤◌, min, max, cond, ◌==◌, Bool, true, false, ◌⊎◌, List, [], ◌∷◌, length, get_or, take, drop, fold, refl, ap, ◌∙◌, ap₂, ⊎_elim, arith}
 use Rattle.std.specs.List.{zip}
 use Rattle.std.proofs.lemmas.List.{drop_more, drop_all, take_all}
 use Rattle.std.proofs.lemmas.Slice.Zip.{length-zip}
@@ -22,27 +22,6 @@ highest_all k os p i past =
     (λ h. ap (λ xs. highest k xs (drop i p)) (drop_all i os h))
     (λ h. ap (highest k (drop i os)) (drop_all i p h) ∙ highest_none k (drop i os))
     past
-
-abbrev greatest : ℕ → List (Operation × Slot) → ℕ
-greatest h xs = fold (λ a x. max a x.1.unit) h xs
-
--- the operations of kind k and their slots
-abbrev pub of_kind : ℕ → List Operation → List Slot → List (Operation × Slot)
-of_kind k os p = filter (λ x. x.0.kind == k) (zip os p)
-
--- the highest so far, and then the highest of what is left
-highest_from : (k h : ℕ) (os : List Operation) (p : List Slot) → greatest h (of_kind k os p) ≡ max h (highest k os p)
-highest_from k h [] p = omega arith
-highest_from k h (o ∷ os) [] = omega arith
-highest_from k h (o ∷ os) (s ∷ p) = by (o.kind == k) (λ g. highest_from k g os p)
-  where
-    by : (b : Bool) → ((g : ℕ) → greatest g (of_kind k os p) ≡ max g (highest k os p))
-        → greatest h (cond b ((o, s) ∷ of_kind k os p) (of_kind k os p)) ≡ max h (cond b (max s.unit (highest k os p)) (highest k os p))
-    by true more = more (max h s.unit) ∙ omega arith
-    by false more = more h
-
-pub highest_zip : (k : ℕ) (os : List Operation) (p : List Slot) → fold (λ a x. max a x.1.unit) 0 (of_kind k os p) ≡ highest k os p
-highest_zip k os p = highest_from k 0 os p ∙ omega arith
 
 -- ---- both lists cut to one length, and the kind asked of each
 

@@ -1,14 +1,14 @@
 -- The latest starts, worked out from the last operation back, and their range.
-use Rattle.std.proofs.lemmas.List.{append-nil, append_assoc, length-append, length_push}
+use Rattle.std.proofs.lemmas.List.{append-nil, append_assoc, drop-set, length-append, length_push}
 use Rattle.std.proofs.Math.Seq.{drop-append-add}
 use Rattle.rules.proofs.Latest.{latests_length}
-use Rattle.std.proofs.Common.{◌≡◌, ℕ, suc, ◌+◌, ◌*◌, ◌<◌, ◌≤◌, true, false, cond, ◌⊎◌, inl, inr, List, [], ◌∷◌, ◌++◌, drop, length, ℤ, pos, ◌+ℤ◌, ◌-ℤ◌, ◌≤ℤ◌, sym, refl, ap, ap₂, ◌∙◌, subst, arith}
+use Rattle.std.proofs.Common.{◌≡◌, ℕ, zero, suc, ◌+◌, ◌-◌, ◌*◌, ◌<◌, ◌≤◌, true, false, cond, ◌⊎◌, inl, inr, List, [], ◌∷◌, ◌++◌, get_or, drop, set, length, ℤ, pos, ◌+ℤ◌, ◌-ℤ◌, ◌≤ℤ◌, sym, refl, ap, ap₂, ◌∙◌, subst, arith}
 use Rattle.std.specs.Int.{int_min}
 use Rattle.std.proofs.lemmas.Bool.{cond-true, cond-false}
 use Rattle.std.proofs.lemmas.Int.{ints}
 use Rattle.std.proofs.lemmas.Bool.Decides.{nat_tests}
 use Rattle.rules.specs.declared.operation.Operation.{Operation}
-use Rattle.rules.specs.Jobs.{Job, duration_of}
+use Rattle.rules.specs.Jobs.{Job, Valid, duration_of}
 use Rattle.rules.specs.Frames.{least, uses, before_users, last_start, latests_from, latests}
 use Rattle.rules.proofs.Durations.{duration_short}
 
@@ -72,6 +72,19 @@ latests_within j some few n (o ∷ os) =
     let P : ℕ → Type 0 = λ b. Within b (latests_from j n (o ∷ os)) in
     subst P low (here.0, here.1, within_lower (8 * length os) (8 * length os + 8) (latests_from j (suc n) os) (omega arith) later)
 
+within_at : (low : ℕ) (zs : List ℤ) (q : ℕ) (d : ℤ) → q < length zs → Within low zs → (pos 0 ≤ℤ (get_or zs q d +ℤ pos low)) × (get_or zs q d ≤ℤ pos 65)
+within_at low [] q d inside w = absurd (omega arith)
+within_at low (z ∷ zs) zero d inside w = (w.0, w.1)
+within_at low (z ∷ zs) (suc q) d inside w = within_at low zs q d (omega arith) w.2
+
+-- a start that is known already
+pub start_within : (j : Job) (n q : ℕ) (os : List Operation) (starts : List ℤ) → Valid j → length os ≤ 64 → starts ≡ latests_from j n os → q < length starts
+    → (pos 0 ≤ℤ (get_or starts q (pos 0) +ℤ pos 512)) × (get_or starts q (pos 0) ≤ℤ pos 65)
+start_within j n q os starts valid few known inside =
+    let w : Within 512 (latests_from j n os) =
+    within_lower (8 * length os) 512 (latests_from j n os) (omega (arith, few)) (latests_within j valid.some_steps valid.few_steps n os) in
+    within_at 512 starts q (pos 0) inside (subst (Within 512) (sym known) w)
+
 -- The operations before some others, and the latest starts of these.
 pub record Behind (j : Job) (before : List Operation) (starts : List ℤ) : Type 0 where
   pub later : List Operation
@@ -99,6 +112,12 @@ module _ {j : Job} {whole : List Operation} {starts : List ℤ} (b : Behind j wh
 
   pub behind_more : (z : ℤ) → z ∷ starts ≡ latests_from j (length before + 1) (o ∷ drop (length before + 1) j.operations) → Behind j before (z ∷ starts)
   behind_more z is = record { later = o ∷ b.later; parts = parts_here; known = is ∙ ap (λ os. latests_from j (length before + 1) (o ∷ os)) later_rows }
+
+-- a start is put before those that stand at the end of the rows
+pub drop_put : (rows : List ℤ) (first : ℕ) (z : ℤ) → 1 ≤ first → first ≤ length rows → drop (first - 1) (set rows (first - 1) z) ≡ z ∷ drop first rows
+drop_put rows first z some inside =
+    let next : first - 1 + 1 ≡ first = omega arith in
+    drop-set rows (first - 1) z (omega arith) ∙ ap (λ n. z ∷ drop n rows) next
 
 pub behind_none : {j : Job} {before : List Operation} {starts : List ℤ} → Behind j before starts → before ≡ [] → starts ≡ latests j
 behind_none {j} b none = b.known ∙ ap₂ (λ os rest. latests_from j (length os + 1) rest) none (sym (ap (λ os. os ++ b.later) none) ∙ b.parts)

@@ -22,7 +22,7 @@ use rules::operation::Operation;
 use rules::refusal::{FileRefusal, Refusal};
 use tables::tables::Tables;
 
-// `valid` stands with every call: a model shows its callers nothing of its invariant.
+// `valid`, and `was_valid` of what was before, stand with every call: a model shows its callers nothing of its invariant.
 impl Job {
     /// A job with no kinds, no operations, one step and latency 0.
     pub fn new() -> Self
@@ -45,6 +45,7 @@ impl Job {
     /// Makes one edit, or refuses it as the call for that edit does.
     pub fn edit(&mut self, edit: Edit) -> Result<(), Refusal>
         ensures exact { CarriedOut self.old edit result self.new }
+        ensures was_valid { Valid self.old }
         ensures valid { Valid self.new }
     {
         self.tables.edit(edit)?;
@@ -55,6 +56,7 @@ impl Job {
     /// Adds a kind by its figures. Refused: 1 a figure out of range, 9 a ninth kind, 13 a busy time above a latency that is not 0.
     pub fn add_kind(&mut self, figures: Figures) -> Result<(), Refusal>
         ensures exact { CarriedOut self.old (AddKind figures) result self.new }
+        ensures was_valid { Valid self.old }
         ensures valid { Valid self.new }
     {
         self.edit(Edit::AddKind(figures))
@@ -65,6 +67,7 @@ impl Job {
     // a number and a cap, as `Edit::AddLibraryKind` names them
     pub fn add_library_kind(&mut self, number: u8, cap: u8) -> Result<(), Refusal>
         ensures exact { CarriedOut self.old (AddLibraryKind number cap) result self.new }
+        ensures was_valid { Valid self.old }
         ensures valid { Valid self.new }
     {
         self.edit(Edit::AddLibraryKind { number, cap })
@@ -73,6 +76,7 @@ impl Job {
     /// Adds an operation. Refused: 10 a 65th operation, 11 a kind that is not held, 12 an operand above the operations held.
     pub fn add_operation(&mut self, operation: Operation) -> Result<(), Refusal>
         ensures exact { CarriedOut self.old (AddOperation operation) result self.new }
+        ensures was_valid { Valid self.old }
         ensures valid { Valid self.new }
     {
         self.edit(Edit::AddOperation(operation))
@@ -83,6 +87,7 @@ impl Job {
     // steps and a latency, as `Edit::SetLimits` names them
     pub fn set_limits(&mut self, steps: u8, latency: u8) -> Result<(), Refusal>
         ensures exact { CarriedOut self.old (SetLimits steps latency) result self.new }
+        ensures was_valid { Valid self.old }
         ensures valid { Valid self.new }
     {
         self.edit(Edit::SetLimits { steps, latency })
@@ -93,11 +98,12 @@ impl Job {
     /// refused with.
     pub fn load(&mut self, file: &[u8]) -> Result<(), FileRefusal>
         ensures exact { Became self.old (loaded file.now) (told_file result) self.new }
+        ensures was_valid { Valid self.old }
         ensures valid { Valid self.new }
         ensures read { Loads file.now (loaded file.now) }
         ensures stands_for { FilesStandForEdits }
     {
-        // for the ranges alone, which come with the parts
+        // for the ranges alone
         let _ = self.steps();
         let tables = read_tables(file)?;
         *self = Job::of(tables);
@@ -156,7 +162,7 @@ impl Job {
         ensures framed { (n : ℕ) → 1 ≤ n → n ≤ length result.now → Framed self.now n }
         ensures valid { Valid self.now }
     {
-        // for the ranges alone, which come with the parts
+        // for the ranges alone
         let _ = self.steps();
         self.frames.as_slice()
     }

@@ -105,6 +105,7 @@ impl Tables {
         Ok(())
     }
 
+    // One edit, or its refusal.
     fn carry_out(&mut self, edit: Edit) -> Result<(), Refusal>
         ensures { CarriedOut self.old edit result self.new }
     {
@@ -119,10 +120,12 @@ impl Tables {
     /// Makes one edit, or refuses it and leaves the tables as they were.
     pub fn edit(&mut self, edit: Edit) -> Result<(), Refusal>
         ensures exact { CarriedOut self.old edit result self.new }
+        ensures was_valid { Valid self.old }
         ensures valid { Valid self.new }
     {
+        // for the ranges alone, before and after
+        let _ = self.steps();
         let answer = self.carry_out(edit);
-        // for the ranges alone, which come with the parts
         let _ = self.steps();
         answer
     }

@@ -1,5 +1,5 @@
 //! Working out the frames: the earliest starts from the first operation on, the latest from the last back.
-ghost use Rattle.std.specs.Prelude.{◌≡◌, ◌+◌, ◌<◌, ◌∷◌, length};
+ghost use Rattle.std.specs.Prelude.{◌≡◌, ◌+◌, ◌<◌, ◌≤◌, ◌∷◌, length};
 ghost use Rattle.rules.specs.Frames.{readable, earliests, latests, latests_from};
 ghost use Rattle.rules.specs.Jobs.{Valid};
 
@@ -13,6 +13,18 @@ fn readable(ready: &[u16], operand: u8) -> u16
     ensures { result ≡ readable ready.now operand }
 {
     numbered(ready, operand).unwrap_or(1)
+}
+
+// The same starts in a vector.
+fn vector_of(starts: &[i16]) -> ArrayVec<i16, MOST_OPERATIONS>
+    requires { length starts.now ≤ 64 }
+    ensures { result.items ≡ starts.now }
+{
+    let mut vector = ArrayVec::new();
+    for start in starts {
+        vector.push(*start);
+    }
+    vector
 }
 
 impl Tables {
@@ -64,17 +76,20 @@ impl Tables {
         ensures valid { Valid self.now }
     {
         let operations = self.operations();
-        let mut starts = ArrayVec::new();
+        // from the end of an array back: to put each before the others in a vector would move all of them
+        let mut rows = [0; MOST_OPERATIONS];
+        let mut first = MOST_OPERATIONS;
         // with its number, since those after it are a slice of the same operations
         for (i, operation) in operations.iter().enumerate().rev() {
             let start = self.latest_start(
                 i as u8 + 1,
                 *operation,
                 &operations[i + 1..],
-                starts.as_slice(),
+                &rows[first..],
             );
-            starts.insert(0, start);
+            first -= 1;
+            rows[first] = start;
         }
-        starts
+        vector_of(&rows[first..])
     }
 }

@@ -16,8 +16,8 @@ impl Timing {
     {
         let mut count = tally.all;
         let mut most = floor;
-        // by step, which is no index: it ends the window, and the tally has a row for it
-        for end in (begin..=self.steps).rev() {
+        // by step, which is no index: it ends the window, and the tally has a row for it; no `..=`, which tests for its end twice
+        for end in (begin..self.steps + 1).rev() {
             most = self.raise(most, end + 1 - begin, count);
             count -= tally.ends[end as usize];
         }
@@ -31,7 +31,7 @@ impl Timing {
     {
         let mut tally = Tally::new();
         let mut most = 0;
-        // by step, which is no index: the stays that begin at it are taken in
+        // step by step: the stays that begin at it are taken in
         for begin in (1..=self.steps).rev() {
             if stays.last[begin as usize].is_none() {
                 continue;

@@ -12,6 +12,7 @@ returns-in_err-tables c =
     let p = err_from_is_err_and c.from_residual.result c.from_residual.ensures.1 in
     record {
       exact = rw (p.1, p.2) (stayed_refused c.args.self.now (loaded c.args.file.now) _ c.in_err-tables.ensures.exact);
+      was_valid = c.steps.ensures.valid;
       valid = c.steps.ensures.valid;
       read = files_are_read c.args.file.now;
       stands_for = files_stand_for_edits;
@@ -21,6 +22,7 @@ pub returns : goal.returns
 returns c =
     record {
       exact = became_wanted c.args.self.now (loaded c.args.file.now) c.in_ok-tables.tables c.of.result c.in_ok-tables.ensures.exact c.of.ensures;
+      was_valid = c.steps.ensures.valid;
       valid = subst Valid (sym c.of.ensures) c.in_ok-tables.ensures.valid;
       read = files_are_read c.args.file.now;
       stands_for = files_stand_for_edits;

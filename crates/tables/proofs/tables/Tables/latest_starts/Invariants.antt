@@ -1,4 +1,4 @@
-use Rattle.std.proofs.Common.{◌≡◌}
+use Rattle.std.proofs.Common.{◌≡◌, ◌≤◌, length, drop}
 use Rattle.std.specs.Iterator.Adapters.{enumerate_count, enumerate_source, rev_source}
 use Rattle.std.specs.Slice.Iter.{iter_rest}
 use Rattle.tables.proofs.LatestLoop.{Behind}
@@ -9,4 +9,6 @@ invariant-loop-i l =
     (goal.iterator-loop-i).can_next l.i-iterator
     × (goal.iterator-loop-i).is_finite l.i-iterator
     × (enumerate_count (rev_source l.i-iterator) ≡ 0)
-    × Behind l.self (iter_rest (enumerate_source (rev_source l.i-iterator))) l.starts.items
+    × (length l.rows ≡ 64)
+    × (l.first ≤ 64)
+    × Behind l.self (iter_rest (enumerate_source (rev_source l.i-iterator))) (drop l.first l.rows)
